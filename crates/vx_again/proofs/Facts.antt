@@ -29,7 +29,7 @@ use Rattle.vx_merge.specs.Rounds.{picture_at}
 use Rattle.vx_merge.specs.Shapes.{IsFrame, frame_pps_shape, frame_sps_shape}
 use Rattle.vx_merge.specs.Slots.{pps_slots}
 use Rattle.vx_merge.specs.Written.{IsMerged}
-use Rattle.vx_merge.specs.inner.Joined.{CanBeJoined, HasShapes, MakeFrame}
+use Rattle.vx_merge.specs.inner.Geometry.{CanBeJoined, HasShapes, MakeFrame}
 use Rattle.vx_merge.specs.inner.Known.{IsKnown}
 use Rattle.vx_merge.proofs.Apart.{frame_apart}
 use Rattle.vx_merge.proofs.FrameShaping.{has_shapes}

@@ -17,7 +17,7 @@ use Rattle.vx_layout.specs.Faults.{IsLayout}
 use Rattle.vx_layout.specs.Layouts.{no_rect}
 use Rattle.vx_layout.specs.Rects.{whole_picture}
 use Rattle.vx_layout.proofs.Nested.{same_numbers}
-use Rattle.vx_sps.specs.declared.tables.TheConstants.{TAKEN}
+use Rattle.vx_sps.specs.Depends.{taken_sps_fields}
 use Rattle.vx_sps.specs.Set as sps
 use Rattle.vx_sps.specs.Subpictures.{sps_subpic_id_of, rect_of, subpics_of}
 use Rattle.vx_sps.specs.laws.Reread.{Says, Signals}
@@ -121,9 +121,9 @@ module _ (tells : SetsTellPartitions) (reads : ReadSlicesAreListable) (corners :
 
   -- ---- CTUs
 
-  taken : (of : ℕ) → IsTrue (has (set_of TAKEN) of) → number s of ≡ number first.sps of
-  taken of has_ = number_of_shown (set_of TAKEN) of s has_ ∙ ap (λ xs. number xs of) sets.of_sps.shown_ones
-      ∙ sym (number_of_shown (set_of TAKEN) of first.sps has_)
+  taken : (of : ℕ) → IsTrue (has (set_of taken_sps_fields) of) → number s of ≡ number first.sps of
+  taken of has_ = number_of_shown (set_of taken_sps_fields) of s has_ ∙ ap (λ xs. number xs of) sets.of_sps.shown_ones
+      ∙ sym (number_of_shown (set_of taken_sps_fields) of first.sps has_)
 
   ctus_agree : ctu_sizes_differ s p ≡ false
   unfolding ctu_sizes_differ fresh

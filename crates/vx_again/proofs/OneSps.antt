@@ -12,7 +12,7 @@ use Rattle.vx_table.specs.Shown.{shown_items}
 use Rattle.vx_table.proofs.Rewriting.{rewritten_one}
 use Rattle.vx_fit.specs.declared.placed.Placed.{Placed}
 use Rattle.vx_sps.specs.declared.shape.SpsShape.{SpsShape}
-use Rattle.vx_sps.specs.declared.tables.TheConstants.{TAKEN}
+use Rattle.vx_sps.specs.Depends.{taken_sps_fields}
 use Rattle.vx_sps.specs.Reshaped.{IsReshapedSps, stated_sps_items}
 use Rattle.vx_sps.specs.Set.{ctb_size_of}
 use Rattle.vx_sps.specs.Structure.{sps_form}
@@ -118,4 +118,4 @@ one_sps corners level es qs s t is one two =
     let source : List Item = (picture_at qs 0).sps in
     let shape : SpsShape = frame_sps_shape corners qs level in
     let moved : IsReshapedSps source shape s = subst (λ x. IsReshapedSps x shape s) (first_same es qs is) (subst (λ x. IsReshapedSps (picture_at es 0).sps x s) (shape_same corners level es qs is) one) in
-    rewritten_one sps_form (set_of TAKEN) (shown_items (set_of TAKEN) source) (stated_sps_items source shape) s t moved two
+    rewritten_one sps_form (set_of taken_sps_fields) (shown_items (set_of taken_sps_fields) source) (stated_sps_items source shape) s t moved two

@@ -45,7 +45,7 @@ use Rattle.vx_merge.specs.Rounds.{no_picture, picture_at}
 use Rattle.vx_merge.specs.Rules.{crosses_slices, crosses_tiles, has_slices, has_tiles}
 use Rattle.vx_merge.specs.Shapes.{frame_pps_shape}
 use Rattle.vx_merge.specs.Written.{IsMerged}
-use Rattle.vx_merge.specs.inner.Joined.{HasShapes, MakeFrame}
+use Rattle.vx_merge.specs.inner.Geometry.{HasShapes, MakeFrame}
 use Rattle.vx_merge.proofs.FrameShaping.{positive_ctb}
 use Rattle.vx_merge.proofs.Passing.{one_subpic, slices_as_lowest, tiles_as_lowest}
 use Rattle.vx_merge.proofs.Sized.{is_sized}

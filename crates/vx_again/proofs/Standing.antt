@@ -4,7 +4,7 @@ use Rattle.std.specs.Prelude.{option_to_list}
 use Rattle.std.specs.List.{AllByRecursion, AllZip}
 use Rattle.std.proofs.lemmas.Bool.{cases_lt}
 use Rattle.std.proofs.lemmas.List.Elements.{All-from_recursion}
-use Rattle.vx_annexb.specs.ByteStream.{unit_limit}
+use Rattle.vx_bits.specs.Limits.{unit_limit}
 use Rattle.vx_annexb.specs.Emulation.{IsEscaped}
 use Rattle.vx_annexb.specs.Laws.{CanStand, EscapedJoins}
 use Rattle.vx_layout.proofs.Parts.{Each-append}

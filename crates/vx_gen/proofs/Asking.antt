@@ -21,7 +21,7 @@ use Rattle.vx_table.specs.Shown.{shown_items}
 use Rattle.vx_table.proofs.Loading.{number_of_shown}
 use Rattle.vx_table.proofs.Numbers.{powers_least}
 use Rattle.vx_sps.specs.declared.shape.SpsShape.{SpsShape}
-use Rattle.vx_sps.specs.declared.tables.TheConstants.{TAKEN}
+use Rattle.vx_sps.specs.Depends.{taken_sps_fields}
 use Rattle.vx_sps.specs.laws.Reread.{ReshapedSignals}
 use Rattle.vx_sps.specs.Set.{extra_ph_bits_of, extra_sh_bits_of, set_flags}
 use Rattle.vx_sps.specs.Subpictures.{sps_subpic_id_of, subpics_of}
@@ -86,22 +86,22 @@ module _ (signals : ReshapedSignals) (seed pictures n p : ℕ) (some : 1 ≤ n) 
 
   -- ---- its SPS
 
-  sps_taken : shown_items (set_of TAKEN) q.begun.sps ≡ shown_items (set_of TAKEN) generated_sps
-  sps_taken = is.sps.shown_ones ∙ ap (λ (x : Parts). shown_items (set_of TAKEN) x.sps) first
+  sps_taken : shown_items (set_of taken_sps_fields) q.begun.sps ≡ shown_items (set_of taken_sps_fields) generated_sps
+  sps_taken = is.sps.shown_ones ∙ ap (λ (x : Parts). shown_items (set_of taken_sps_fields) x.sps) first
 
   pub no_ph_bits : extra_ph_bits_of q.begun.sps ≡ 0
   unfolding fresh natural
-  no_ph_bits = same_flags sps_fields.sps_extra_ph_bit_present_flag (set_of TAKEN) q.begun.sps generated_sps refl sps_taken
+  no_ph_bits = same_flags sps_fields.sps_extra_ph_bit_present_flag (set_of taken_sps_fields) q.begun.sps generated_sps refl sps_taken
 
   no_sh_bits : extra_sh_bits_of q.begun.sps ≡ 0
   unfolding fresh natural
-  no_sh_bits = same_flags sps_fields.sps_extra_sh_bit_present_flag (set_of TAKEN) q.begun.sps generated_sps refl sps_taken
+  no_sh_bits = same_flags sps_fields.sps_extra_sh_bit_present_flag (set_of taken_sps_fields) q.begun.sps generated_sps refl sps_taken
 
   no_points : number q.begun.sps sps_fields.sps_entry_point_offsets_present_flag ≡ 0
   unfolding fresh natural
   no_points =
       let of : ℕ = sps_fields.sps_entry_point_offsets_present_flag in
-      number_of_shown (set_of TAKEN) of q.begun.sps refl ∙ ap (λ xs. number xs of) sps_taken ∙ sym (number_of_shown (set_of TAKEN) of generated_sps refl)
+      number_of_shown (set_of taken_sps_fields) of q.begun.sps refl ∙ ap (λ xs. number xs of) sps_taken ∙ sym (number_of_shown (set_of taken_sps_fields) of generated_sps refl)
 
   -- its ids are indices
   abbrev shape : SpsShape

@@ -6,7 +6,8 @@ use Rattle.std.proofs.lemmas.Bool.{cases_Bool}
 use Rattle.std.proofs.lemmas.List.{length-append, length-map}
 use Rattle.std.proofs.lemmas.List.FromFn.{length-map-range_with_len}
 use Rattle.std.proofs.lemmas.Option.{none-some}
-use Rattle.vx_annexb.specs.ByteStream.{source_limit, unit_limit}
+use Rattle.vx_bits.specs.Limits.{unit_limit}
+use Rattle.vx_annexb.specs.ByteStream.{source_limit}
 use Rattle.vx_annexb.specs.Laws.{EscapedIsShort, written}
 use Rattle.vx_aps.specs.declared.aps.TheConstants as aps
 use Rattle.vx_sps.specs.laws.Reread.{ReshapedSignals}

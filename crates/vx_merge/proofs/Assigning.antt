@@ -344,12 +344,23 @@ pub room_there : (slots : List Sent) (kind count : ℕ) (held : List (Option ℕ
 room_there slots kind count held ids k d within place is are =
     record { next = ap (slice_get held) place ∙ slice_get_at held k d within ∙ ap Some is; matched = are.matched }
 
-pub all_open_taken : (slots : List Sent) (kind count : ℕ) (held : List (Option ℕ)) (ids : List ℕ) → length held ≤ count → HasRoom held ids
-    → ((i : ℕ) → i < count → ¬ IsOpen slots kind held ids false i) → ⊥
-all_open_taken slots kind count held ids few room none = has_free count held ids few room (λ i less. elim (cases_Bool (is_taken held ids i)) [
-  | inl is ↦ is
-  | inr free ↦ absurd (none i less (opens_any (is_taken held ids i) (is_vacant (an_aps_of kind i) slots) free))
-])
+-- ids that are taken from the lowest on leave one
+pub free_above : (count : ℕ) (held : List (Option ℕ)) (ids : List ℕ) (id : ℕ) → length held ≤ count → HasRoom held ids
+    → ((i : ℕ) → i < id → is_taken held ids i ≡ true) → id < count
+free_above count held ids id few room taken =
+    elim (cases_lt id count) [
+      | inl less ↦ less
+      | inr most ↦ absurd (has_free count held ids few room (λ i less. taken i (omega (arith, less, most))))
+    ]
+
+-- the lowest that isn't taken
+pub lowest_is : (sent : List Sent) (kind count : ℕ) (held : List (Option ℕ)) (ids : List ℕ) (id : ℕ) → length held ≤ count → HasRoom held ids
+    → ((i : ℕ) → i < id → is_taken held ids i ≡ true) → is_taken held ids id ≡ false → IsLowest count (IsOpen sent kind held ids false) id
+lowest_is sent kind count held ids id few room taken free = record {
+  in_range = free_above count held ids id few room taken;
+  breaks = opens_any (is_taken held ids id) (is_vacant (an_aps_of kind id) sent) free;
+  lower = λ j less is. let closed = (opened (is_taken held ids j) false (is_vacant (an_aps_of kind j) sent) is).0 in let was = taken j less in true≢false (sym was ∙ closed);
+}
 
 index_front : (xs ys : List ℕ) (k : ℕ) → k < length xs → slice_index (xs ++ ys) k ≡ slice_index xs k
 index_front [] ys k within = absurd (omega (arith, within))

@@ -1,20 +1,19 @@
 -- What is told of regions that fit together, and of those that don't.
-use Rattle.std.proofs.Common.{◌≡◌, ℕ, ◌<◌, List, length, Option, Some, None, ap, sym, subst, refl, inl, inr, arith}
+use Rattle.std.proofs.Common.{◌≡◌, ℕ, ◌<◌, List, [], ◌∷◌, length, Some, None, ap, refl, inl, inr, arith}
+use Rattle.vx_bits.specs.declared.refusal.Refusal.TheVariants.{Merge}
+use Rattle.vx_bits.specs.declared.rules.TheConstants as rules
 use Rattle.vx_fit.specs.declared.placed.FitFault.{FitFault}
 use Rattle.vx_fit.specs.declared.placed.FitFault.TheVariants.{TooLarge, Geometry, Order}
 use Rattle.vx_fit.specs.declared.placed.Placed.{Placed}
 use Rattle.vx_fit.specs.FitFaults.{IsGeometryFault}
 use Rattle.vx_layout.specs.declared.numbers.Numbers.{Numbers}
 use Rattle.vx_layout.specs.declared.rect.Rect.{Rect}
-use Rattle.vx_fit.specs.declared.lines.LineError.{LineError}
-use Rattle.vx_fit.specs.declared.lines.LineError.TheVariants.{Memory, Lines}
-use Rattle.vx_fit.specs.laws.Fitting.{FitFaultIsOne, FittingHasNoFault, LinesFaultIsOne}
-use Rattle.vx_fit.specs.FrameLines.{IfLines, IsLinesFault}
-use Rattle.vx_fit.specs.Lowest.{IsLowest, IsLowestAnswer}
+use Rattle.vx_fit.specs.laws.Fitting.{FitFaultIsOne, FittingHasNoFault, KeepingHasNoFault, LinesFaultIsOne}
+use Rattle.vx_fit.specs.FrameLines.{HaveLines, IsLinesFault}
 use Rattle.vx_fit.specs.FitFaults.{IsFitFault}
 use Rattle.vx_fit.specs.Placing.{FitTogether}
-use Rattle.vx_merge.specs.Rules.{rules_of_fit}
-use Rattle.vx_merge.specs.inner.Found.{Finds, Names, fit_refusal}
+use Rattle.vx_merge.specs.Rules.{rules_of_fit, tile_lines}
+use Rattle.vx_merge.specs.inner.Found.{Finds, fit_refusal}
 
 pub fits_found : (placed : List Placed) (ctb : ℕ) → FittingHasNoFault → FitTogether placed ctb → Finds (length placed) (rules_of_fit placed ctb) None
 fits_found placed ctb none fit = record {
@@ -80,13 +79,20 @@ misfit_found placed ctb (Order k) some one is =
 
 -- ---- lines
 
-pub named_lowest : (corners : List Rect) (parts : List Numbers) (error : LineError) (lowest : Option ℕ) → LinesFaultIsOne → IfLines error (IsLinesFault corners parts)
-    → Names error lowest → IsLowestAnswer (length corners) (IsLinesFault corners parts) lowest
-named_lowest corners parts Memory lowest one fault names = absurd names
-named_lowest corners parts (Lines k) lowest one fault names =
-    let here : IsLowest (length corners) (IsLinesFault corners parts) k = record {
+pub lines_found : (columns rows : List ℕ) (corners : List Rect) (parts : List Numbers) → KeepingHasNoFault → HaveLines columns rows corners parts
+    → Finds (length corners) (tile_lines corners parts ∷ []) None
+lines_found columns rows corners parts none lines = record { verdict = inl ((λ k short fault. none columns rows corners parts k lines fault), refl) }
+
+pub crossed_found : (corners : List Rect) (parts : List Numbers) (k : ℕ) → LinesFaultIsOne → IsLinesFault corners parts k
+    → Finds (length corners) (tile_lines corners parts ∷ []) (Some (Merge rules.TILE_LINES k 0))
+crossed_found corners parts k one fault = record {
+  verdict = inr (
+    k,
+    record {
       in_range = fault.in_range;
       breaks = fault;
       lower = λ j less other. let same : j ≡ k = one corners parts j k other fault in omega (arith, same, less);
-    } in
-    subst (IsLowestAnswer (length corners) (IsLinesFault corners parts)) (sym names) here
+    },
+    refl,
+  );
+}

@@ -40,7 +40,7 @@ use Rattle.vx_merge.specs.declared.corner.Corner.{Corner}
 use Rattle.vx_merge.specs.Regions.{corners_in, ctb_of, layouts_in, placed_in}
 use Rattle.vx_merge.specs.Rounds.{picture_at}
 use Rattle.vx_merge.specs.Shapes.{frame_dpb, greatest, latency_of, least, numbers_in_round, offsets_at, frame_pps_shape, frame_sps_shape, frame_window}
-use Rattle.vx_merge.specs.inner.Joined.{HasShapes, MakeFrame}
+use Rattle.vx_merge.specs.inner.Geometry.{HasShapes, MakeFrame}
 use Rattle.vx_merge.proofs.InitQp.{init_qp_is}
 
 -- ---- sizes

@@ -1,14 +1,15 @@
 -- What is answered of a round that is joined behind others.
-use Rattle.std.proofs.Common.{◌≡◌, ℕ, List, [], ◌∷◌, length, Option, None, Result, Ok, Err, true, sym, subst, inr}
+use Rattle.std.proofs.Common.{◌≡◌, ℕ, List, [], ◌∷◌, length, map, Bool, true, false, Option, None, Result, Ok, Err, sym, subst, inr}
 use Rattle.vx_bits.specs.declared.refusal.Refusal.{Refusal}
 use Rattle.vx_pic.specs.Parts.{Parts}
 use Rattle.vx_pic.specs.Written.{Plan}
 use Rattle.vx_write.specs.declared.fault.WriteError.{WriteError}
 use Rattle.vx_write.specs.declared.fault.WriteError.TheVariants as errors
 use Rattle.vx_merge.specs.declared.corner.Corner.{Corner}
-use Rattle.vx_merge.specs.Joins.{IsBarredWhere, JudgesJoin, WritesJoined, join_start}
+use Rattle.vx_merge.specs.Joins.{IsBarredWhere, JudgesJoin, WritesJoined, after_end_of_sequence, join_start}
 use Rattle.vx_merge.specs.Merging.{Merging, WritesOneRound}
 use Rattle.vx_merge.specs.Verdict.{IsVerdict}
+use Rattle.vx_merge.specs.inner.Counting.{WritesWhere}
 use Rattle.vx_merge.specs.inner.Found.{Finds}
 use Rattle.vx_merge.proofs.Writing.{writes_stopped}
 
@@ -36,10 +37,15 @@ other_barred round done x y r corners level is =
     subst (λ l. IsBarredWhere true y.corners l round done r) (sym level) (subst (λ cs. IsBarredWhere true cs x.level round done r) (sym corners) is)
 
 -- after an error what counts as sent doesn't matter
-pub joined_stopped : (round : List Parts) (done : List Plan) (x y : Merging) (a b : Option (List ℕ)) (k l : ℕ) (e : WriteError)
+joined_stopped : (round : List Parts) (done : List Plan) (x y : Merging) (a b : Option (List ℕ)) (k l : ℕ) (e : WriteError)
     → y.corners ≡ x.corners → y.level ≡ x.level → WritesJoined round done x a b k l (Err e) → WritesJoined round done y a b k l (Err e)
 joined_stopped round done x y a b k l errors.Memory corners level is = is
 joined_stopped round done x y a b k l errors.SinkFailed corners level is =
     (other_starts round x y None corners is.0, writes_stopped round done x y a b k l errors.SinkFailed corners level is.1)
 joined_stopped round done x y a b k l (errors.Refused r) corners level is = (is.0, is.1, other_barred round done x y r corners level is.2)
 joined_stopped round done x y a b k l (errors.Stopped first) corners level is = is
+
+pub where_stopped : (joins : Bool) (round : List Parts) (done : List Plan) (x y : Merging) (a b : Option (List ℕ)) (k l : ℕ) (e : WriteError)
+    → y.corners ≡ x.corners → y.level ≡ x.level → WritesWhere joins round done x a b k l (Err e) → WritesWhere joins round done y a b k l (Err e)
+where_stopped true round done x y a b k l e corners level is = joined_stopped (map after_end_of_sequence round) done x y a b k l e corners level is
+where_stopped false round done x y a b k l e corners level is = writes_stopped round done x y a b k l e corners level is

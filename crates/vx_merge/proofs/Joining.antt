@@ -11,16 +11,16 @@ use Rattle.vx_layout.specs.Rects.{IsPart}
 use Rattle.vx_layout.specs.Regions.{moved_to}
 use Rattle.vx_layout.proofs.FrameSlices.{AllZip-at, AllZip-long}
 use Rattle.vx_layout.proofs.FrameWhole.{slices_fill}
-use Rattle.vx_fit.specs.FrameLines.{HaveLines, IsLinesFault}
+use Rattle.vx_fit.specs.FrameLines.{HaveLines}
 use Rattle.vx_fit.specs.Placing.{FitTogether, in_ctus}
-use Rattle.vx_fit.specs.Sources.{IsFitted, IsSized, IsSource}
-use Rattle.vx_fit.proofs.Keeping.{pictures_are_placed, sized_sources}
+use Rattle.vx_fit.specs.Sources.{IsSource}
+use Rattle.vx_fit.proofs.Keeping.{pictures_are_placed}
 use Rattle.vx_pic.specs.Parts.{Parts}
 use Rattle.vx_write.specs.InForce.{AreInForce}
 use Rattle.vx_merge.specs.declared.corner.Corner.{Corner}
 use Rattle.vx_merge.specs.Regions.{corners_in, ctb_of, layouts_in, placed_in}
-use Rattle.vx_merge.specs.inner.Joined.{CanBeJoined, HasShapes, MakeFrame}
-use Rattle.vx_merge.proofs.FrameShaping.{placed_count, positive_ctb}
+use Rattle.vx_merge.specs.inner.Geometry.{CanBeJoined, HasShapes, MakeFrame}
+use Rattle.vx_merge.proofs.FrameShaping.{placed_count}
 
 -- the slices of one more picture
 slices_suc : (corners : List Rect) (pictures : List Numbers) (k : ℕ) (d : Rect) (p : Numbers) → length corners ≡ length pictures → k < length pictures → p ≡ get_or pictures k p
@@ -86,17 +86,3 @@ module _ (corners : List Corner) (round : List Parts) (can : CanBeJoined corners
         across = let most = shapes.limits.columns.1 in omega (arith, part.across, most);
         down = let most = shapes.limits.rows.1 in omega (arith, part.down, most);
       }
-
-  pub sized_of : (regions : List Rect) (layouts : List Numbers) → regions ≡ corners_in corners round → layouts ≡ layouts_in round → AllZip IsSized regions layouts
-  sized_of regions layouts is are =
-      subst (λ l. AllZip IsSized regions l) (sym are) (subst (λ r. AllZip IsSized r (layouts_in round)) (sym is) (sized_sources (corners_in corners round) (layouts_in round) can.sources))
-
-  pub fitted_of : (regions : List Rect) → regions ≡ corners_in corners round → FitTogether (placed_in corners round) (ctb_of round) → IsFitted regions
-  fitted_of regions is fit = record { placed = placed_in corners round; ctb = ctb_of round; some = positive_ctb round; fit = fit; ctus = is }
-
-  pub keep_of : (regions : List Rect) (layouts : List Numbers) → regions ≡ corners_in corners round → layouts ≡ layouts_in round → (k : ℕ) → ¬ IsLinesFault regions layouts k
-  keep_of regions layouts is are =
-      subst (λ l. (k : ℕ) → ¬ IsLinesFault regions l k) (sym are) (subst (λ r. (k : ℕ) → ¬ IsLinesFault r (layouts_in round) k) (sym is) can.lines)
-
-pub lines_made : (columns rows : List ℕ) (corners others : List Rect) (parts more : List Numbers) → corners ≡ others → parts ≡ more → HaveLines columns rows corners parts → HaveLines columns rows others more
-lines_made columns rows corners others parts more is are lines = subst (λ l. HaveLines columns rows others l) are (subst (λ r. HaveLines columns rows r parts) is lines)

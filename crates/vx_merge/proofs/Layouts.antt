@@ -5,7 +5,6 @@ use Rattle.std.proofs.lemmas.List.Elements.{All-push}
 use Rattle.std.specs.Prelude.{All}
 use Rattle.vx_layout.specs.declared.numbers.Numbers.{Numbers}
 use Rattle.vx_pic.specs.Parts.{Parts}
-use Rattle.vx_write.specs.InForce.{AreInForce}
 use Rattle.vx_merge.specs.Regions.{layout_of, layouts_in}
 use Rattle.vx_merge.specs.Rounds.{no_picture, picture_at}
 
@@ -21,7 +20,7 @@ layouts_more round k q short is =
     take_more (layouts_in round) k (layout_of q) (omega (arith, size, short))
     ∙ ap (λ l. take k (layouts_in round) ++ l ∷ []) (get_or-map layout_of round k q (layout_of q) short ∙ ap layout_of (sym is))
 
-pub sets_more : (round : List Parts) (k : ℕ) (q : Parts) → k < length round → q ≡ get_or round k q → All AreInForce (take k round) → AreInForce q
-    → All AreInForce (take (k + 1) round)
-sets_more round k q short is all one =
-    subst (All AreInForce) (sym (take_more round k q short)) (All-push AreInForce (take k round) (get_or round k q) all (subst AreInForce is one))
+-- what holds of each so far, and of one more
+pub each_more : (P : Parts → Type 0) (round : List Parts) (k : ℕ) (q : Parts) → k < length round → q ≡ get_or round k q → All P (take k round) → P q → All P (take (k + 1) round)
+each_more P round k q short is all one =
+    subst (All P) (sym (take_more round k q short)) (All-push P (take k round) (get_or round k q) all (subst P is one))

@@ -20,7 +20,7 @@ pub mod Writing
 pub mod JoinedRounds
 pub mod Deciding
 pub mod Passing
-pub mod Settling
+pub mod SameSets
 pub mod Sources
 pub mod Rising
 pub mod Owning

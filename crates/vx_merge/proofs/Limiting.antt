@@ -8,14 +8,15 @@ use Rattle.std.proofs.lemmas.List.Concat.{flat_map-cons}
 use Rattle.std.proofs.lemmas.List.Folds.{list_any_at, list_any_more}
 use Rattle.std.proofs.lemmas.List.Sums.{sum_by-cons, sum_by_push}
 use Rattle.std.proofs.lemmas.Option.{get_or_from_slice_get, slice_get-get_or, slice_get-map, slice_get_within}
-use Rattle.vx_annexb.specs.ByteStream.{long_start_code, source_limit, unit_limit}
+use Rattle.vx_bits.specs.Limits.{unit_limit}
+use Rattle.vx_annexb.specs.ByteStream.{long_start_code, source_limit}
 use Rattle.vx_annexb.specs.Laws.{written}
 use Rattle.vx_bits.specs.declared.refusal.Refusal.TheVariants.{Limit}
 use Rattle.vx_bits.specs.declared.rules.TheConstants as rules
 use Rattle.vx_fit.specs.Lowest.{IsLowest}
 use Rattle.vx_pic.specs.Rules.{picture_limit}
 use Rattle.vx_pic.specs.Written.{eos_units}
-use Rattle.vx_merge.specs.declared.output.Made.{Made}
+use Rattle.vx_merge.specs.declared.output.RoundUnits.{RoundUnits}
 use Rattle.vx_merge.specs.Verdict.{IsVerdict}
 use Rattle.vx_bits.specs.Codes.{AreBytes}
 use Rattle.vx_merge.specs.inner.Making.{HasPayloads, capped, is_long, with_payloads, limits_by, size_of, slice_units}
@@ -141,7 +142,7 @@ module _ (n : ℕ) (some : 0 < n) (us : List (List ℕ)) (size total : ℕ) wher
 
 -- ---- the slices of what was made
 
-pub slices_past : (m : Made) (i : ℕ) → HasPayloads m → length m.fronts.items ≤ i → length (slice_units m) ≤ i
+pub slices_past : (m : RoundUnits) (i : ℕ) → HasPayloads m → length m.fronts.items ≤ i → length (slice_units m) ≤ i
 slices_past m i same past =
     let fronts = length-map m.fronts.items (λ u. u.items) in
     let payloads = length-map m.payloads (λ b. b.now) in
@@ -149,7 +150,7 @@ slices_past m i same past =
     omega (arith, past, count, fronts)
 
 -- the unit of a slice, with the front and the payload that were read
-pub slice_at : (m : Made) (i : ℕ) (front : Vec ℕ Global) (payload : Bor (List ℕ)) → i < length m.fronts.items → front ≡ get_or m.fronts.items i front
+pub slice_at : (m : RoundUnits) (i : ℕ) (front : Vec ℕ Global) (payload : Bor (List ℕ)) → i < length m.fronts.items → front ≡ get_or m.fronts.items i front
     → slice_get m.payloads i ≡ Some payload → slice_get (slice_units m) i ≡ Some (front.items ++ payload.now)
 slice_at m i front payload within is at =
     joined_at (map (λ u. u.items) m.fronts.items) (map (λ b. b.now) m.payloads) i front.items payload.now

@@ -9,7 +9,7 @@ use Rattle.vx_fit.proofs.Single.{lines_one}
 use Rattle.vx_table.specs.Depends.{set_of}
 use Rattle.vx_table.specs.Shown.{shown_items}
 use Rattle.vx_table.specs.Values.{bits_along}
-use Rattle.vx_sps.specs.declared.tables.TheConstants.{TAKEN}
+use Rattle.vx_sps.specs.Depends.{taken_sps_fields}
 use Rattle.vx_sps.specs.Reshaped as sps_reshaped
 use Rattle.vx_sps.specs.Structure.{sps_form}
 use Rattle.vx_pps.specs.Reshaped as pps_reshaped
@@ -141,7 +141,7 @@ module _ (corners : List Corner) (level : Option ℕ) (round : List Parts) (done
         is.frame.pictures ∙ ((λ j. frame_of (columns j) (rows j) (corners_in corners round) (layouts_in round)) ∙ sym of.frame.pictures)
 
     sps_one : p.begun.sps ≡ q.begun.sps
-    sps_one = rewritten_one sps_form (set_of TAKEN) (shown_items (set_of TAKEN) own.sps) (sps_reshaped.stated_sps_items own.sps (frame_sps_shape corners round level)) p.begun.sps q.begun.sps is.sps of.sps
+    sps_one = rewritten_one sps_form (set_of taken_sps_fields) (shown_items (set_of taken_sps_fields) own.sps) (sps_reshaped.stated_sps_items own.sps (frame_sps_shape corners round level)) p.begun.sps q.begun.sps is.sps of.sps
 
     plain_one : is.plain ≡ of.plain
     plain_one = frame_pps_one corners round p.begun.layout 0 own.pps is.plain of.plain is.frame.lines.vertical.rises is.frame.lines.horizontal.rises is.plain_is

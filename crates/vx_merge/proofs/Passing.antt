@@ -143,9 +143,9 @@ module _ (corners : List Corner) (round : List Parts) (same : length corners ≡
       let fit = rules_of_fit (placed_in corners round) (ctb_of round) in
       (none_back (length corners) fit (tile_lines (corners_in corners round) (layouts_in round) ∷ []) of_frame).0
 
-  -- L5
-  pub slices_few : (k : ℕ) → k < length corners → ¬ (too_many_slices round).breaks k
-  slices_few = (none_back (length corners) (rules_of_frame corners round) (too_many_slices round ∷ []) of_sets.1.1).0
+  -- L5, as it is found
+  pub slices_found : Finds (length corners) (too_many_slices round ∷ []) None
+  slices_found = record { verdict = inl ((none_back (length corners) (rules_of_frame corners round) (too_many_slices round ∷ []) of_sets.1.1).0, refl) }
 
   -- M1 and M2, as they are found
   pub alone_found : Finds (length corners) (several_subpictures round ∷ []) None

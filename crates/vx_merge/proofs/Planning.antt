@@ -20,14 +20,14 @@ use Rattle.vx_write.specs.Slots.{AreLastOf, Sent}
 use Rattle.vx_write.specs.Units.{IsSeiUnit}
 use Rattle.vx_merge.specs.declared.corner.Corner.{Corner}
 use Rattle.vx_merge.specs.declared.needed.RoundSets.{RoundSets}
-use Rattle.vx_merge.specs.declared.output.Made.{Made}
+use Rattle.vx_merge.specs.declared.output.RoundUnits.{RoundUnits}
 use Rattle.vx_merge.specs.Headers.{IsFront, IsMergedSlice, sourced}
 use Rattle.vx_merge.specs.Needed.{Ids, TakeIds, sets_of_round}
 use Rattle.vx_merge.specs.Rounds.{picture_at}
 use Rattle.vx_merge.specs.Shapes.{IsFrame, frame_pps_shape, frame_sps_shape}
 use Rattle.vx_bits.specs.Codes.{AreBytes}
 use Rattle.vx_merge.specs.Written.{IsMerged}
-use Rattle.vx_merge.specs.inner.Making.{AreHeaders, IsMade, with_payloads, payload_of, payloads_in, size_of, slice_units, units_made}
+use Rattle.vx_merge.specs.inner.Making.{AreHeaders, AreRoundUnits, with_payloads, payload_of, payloads_in, size_of, slice_units, units_made}
 use Rattle.vx_merge.specs.inner.Ready.{AreNeeded, IsReadyAt, ids_in}
 use Rattle.vx_merge.proofs.Limiting.{next_item}
 
@@ -125,10 +125,10 @@ slice_sizes (s ∷ slices) =
 
 -- ---- the picture
 
-abbrev sei_of : Parts → Made → Option SeiUnit
+abbrev sei_of : Parts → RoundUnits → Option SeiUnit
 sei_of q m = option_map (λ u. record { unit = u.items; messages = q.messages }) m.sei
 
-sei_units_of : (q : Parts) (m : Made) → sei_units (sei_of q m) ≡ option_to_list (option_map (λ u. u.items) m.sei)
+sei_units_of : (q : Parts) (m : RoundUnits) → sei_units (sei_of q m) ≡ option_to_list (option_map (λ u. u.items) m.sei)
 sei_units_of q m =
     elim m.sei as (λ o. sei_units (option_map (λ u. record { unit = u.items; messages = q.messages }) o) ≡ option_to_list (option_map (λ u. u.items) o)) [
       | None ↦ refl
@@ -136,7 +136,7 @@ sei_units_of q m =
     ]
 
 -- What is known of what was made, with the sets that the round needs behind these, in this frame.
-pub record IsDone (corners : List Corner) (level : Option ℕ) (round : List Parts) (history : List SetUnit) (frame : Numbers) (n : RoundSets) (m : Made) (slots : List Sent) : Type 0 where
+pub record IsDone (corners : List Corner) (level : Option ℕ) (round : List Parts) (history : List SetUnit) (frame : Numbers) (n : RoundSets) (m : RoundUnits) (slots : List Sent) : Type 0 where
   pub some : 0 < length round
   pub first : 0 < length (picture_at round 0).slices
   pub frame_is : IsFrame corners round frame
@@ -148,7 +148,7 @@ pub record IsDone (corners : List Corner) (level : Option ℕ) (round : List Par
   pub sei : IsSeiUnit (picture_at round 0).kind.temporal_id (picture_at round 0).messages (option_map (λ u. record { unit = u.items; messages = (picture_at round 0).messages }) m.sei)
   pub payloads : map (λ b. b.now) m.payloads ≡ flat_map payloads_in round
 
-module _ (corners : List Corner) (level : Option ℕ) (round : List Parts) (history : List SetUnit) (frame : Numbers) (n : RoundSets) (m : Made) (slots : List Sent)
+module _ (corners : List Corner) (level : Option ℕ) (round : List Parts) (history : List SetUnit) (frame : Numbers) (n : RoundSets) (m : RoundUnits) (slots : List Sent)
     (made : IsDone corners level round history frame n m slots) where
   abbrev own : Parts
   own = picture_at round 0
@@ -208,7 +208,7 @@ module _ (corners : List Corner) (level : Option ℕ) (round : List Parts) (hist
       ∙ ap (λ us. eos_units m.after_eos ++ (map (λ u. u.items) m.sets.items ++ (option_to_list (option_map (λ u. u.items) m.sei) ++ (m.header.items ∷ us)))) are)))
 
   plan_made : (first : Slice) (more : List Slice) → AllZip (λ x w. IsMergedSlice round (ids_in n) own.kind.nal_type made.headers.begun x.0 x.1 w) (sourced 0 round) (first ∷ more)
-      → map (λ s. s.unit) (first ∷ more) ≡ slice_units m → IsMade corners level round history m slots
+      → map (λ s. s.unit) (first ∷ more) ≡ slice_units m → AreRoundUnits corners level round history m slots
   plan_made first more each are = record {
     plan = plan first more;
     is = λ done same bytes. is_merged first more each done same (subst (AllByRecursion AreBytes) (sym (units_made_of first more are)) bytes);
@@ -220,12 +220,12 @@ module _ (corners : List Corner) (level : Option ℕ) (round : List Parts) (hist
   }
 
   by_slices : (slices : List Slice) → AllZip (λ x w. IsMergedSlice round (ids_in n) own.kind.nal_type made.headers.begun x.0 x.1 w) (sourced 0 round) slices
-      → map (λ s. s.unit) slices ≡ slice_units m → IsMade corners level round history m slots
+      → map (λ s. s.unit) slices ≡ slice_units m → AreRoundUnits corners level round history m slots
   by_slices [] each are =
       let some = some_sourced round made.some made.first in
       let none = AllZip-long (λ x w. IsMergedSlice round (ids_in n) own.kind.nal_type made.headers.begun x.0 x.1 w) (sourced 0 round) [] each in
       absurd (omega (arith, some, none))
   by_slices (first ∷ more) each are = plan_made first more each are
 
-  pub is_made : IsMade corners level round history m slots
+  pub is_made : AreRoundUnits corners level round history m slots
   is_made = by_slices have.slices have.each units_are

@@ -23,7 +23,7 @@ use Rattle.vx_pic.specs.Parts.{Parts}
 use Rattle.vx_merge.specs.declared.corner.Corner.{Corner}
 use Rattle.vx_merge.specs.Regions.{layout_of}
 use Rattle.vx_merge.specs.Rounds.{no_picture, picture_at}
-use Rattle.vx_merge.specs.inner.Joined.{HasShapes, MakeFrame}
+use Rattle.vx_merge.specs.inner.Geometry.{HasShapes, MakeFrame}
 use Rattle.vx_merge.proofs.FrameShaping.{merged}
 use Rattle.vx_merge.proofs.Joining.{corners_count}
 

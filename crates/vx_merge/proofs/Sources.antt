@@ -1,10 +1,10 @@
 -- The pictures of a round that breaks no rule are sources of its frame.
-use Rattle.std.proofs.Common.{◌≡◌, ℕ, ◌+◌, ◌<◌, ◌≤◌, false, cond, List, [], ◌∷◌, length, get_or, take, Some, None, refl, ap, sym, ◌∙◌, subst, inl, inr, arith}
+use Rattle.std.proofs.Common.{◌≡◌, ℕ, ◌<◌, ◌≤◌, false, cond, List, [], ◌∷◌, length, get_or, Some, None, refl, ap, sym, ◌∙◌, subst, inl, inr, arith}
 use Rattle.std.specs.Prelude.{All, sum_by, unwrap_or}
 use Rattle.std.specs.List.{AllByRecursion, AllZip}
 use Rattle.std.proofs.lemmas.Bool.{cases_Bool}
-use Rattle.std.proofs.lemmas.List.{length-map, take_more}
-use Rattle.std.proofs.lemmas.List.Elements.{All-push, All-weaker, recursion_from_All}
+use Rattle.std.proofs.lemmas.List.{length-map}
+use Rattle.std.proofs.lemmas.List.Elements.{All-weaker, recursion_from_All}
 use Rattle.std.proofs.lemmas.List.Sums.{sum_by-cons}
 use Rattle.std.proofs.lemmas.Option.{none-some}
 use Rattle.vx_layout.specs.declared.numbers.Numbers.{Numbers}
@@ -21,6 +21,7 @@ use Rattle.vx_layout.proofs.Holding.{same_rect}
 use Rattle.vx_layout.proofs.Moving.{last-cut}
 use Rattle.vx_fit.specs.declared.placed.FitFault.{FitFault}
 use Rattle.vx_fit.specs.FitFaults.{IsFitFault}
+use Rattle.vx_fit.specs.FrameLines.{IsLinesFault}
 use Rattle.vx_fit.specs.laws.Fitting.{FitFaultIsOne}
 use Rattle.vx_fit.specs.Placing.{in_ctus}
 use Rattle.vx_fit.specs.Sources.{IsSized, IsSource}
@@ -37,16 +38,16 @@ use Rattle.vx_write.proofs.Sizes.{has_size, subpics_count}
 use Rattle.vx_merge.specs.declared.corner.Corner.{Corner}
 use Rattle.vx_merge.specs.Merging.{AreCorners}
 use Rattle.vx_merge.specs.Regions.{corners_in, ctb_of, layout_of, layouts_in, placed_in}
-use Rattle.vx_merge.specs.Rules.{most_slices, rules_of, rules_of_fit, several_subpictures, sps_tools}
-use Rattle.vx_merge.specs.Verdict.{IsVerdict}
+use Rattle.vx_merge.specs.Rules.{most_slices, rules_of, rules_of_fit, several_subpictures, sps_tools, too_many_slices}
+use Rattle.vx_merge.specs.Verdict.{IsVerdict, Rule}
 use Rattle.vx_merge.specs.inner.Found.{Finds, fit_refusal}
-use Rattle.vx_merge.specs.inner.Joined.{CanBeJoined}
+use Rattle.vx_merge.specs.inner.Geometry.{AreWhole, CanBeJoined, IsWhole}
 use Rattle.vx_merge.specs.inner.Known.{IsKnown}
 use Rattle.vx_merge.proofs.Fitted.{misfit_found}
 use Rattle.vx_merge.proofs.Framing.{all_fit}
-use Rattle.vx_merge.proofs.Passing.{alone_found, fit_found, lines_kept, slices_few, sps_found}
+use Rattle.vx_merge.proofs.Passing.{alone_found, fit_found, lines_kept, slices_found, sps_found}
 use Rattle.vx_merge.proofs.Sized.{all_sized, is_sized, placed_length}
-use Rattle.vx_merge.proofs.Verdicts.{verdict_one}
+use Rattle.vx_merge.proofs.Verdicts.{none_breaks, verdict_one}
 
 -- the law that a region of a layout is one
 abbrev pub RegionIsLayout : Type 0
@@ -109,14 +110,8 @@ module _ (tells : SetsTellPartitions) (q : Parts) (are : AreInForce q) (one : su
 
 -- ---- all pictures
 
--- what is known of each so far, and of one more
-pub known_more : (round : List Parts) (k : ℕ) (q : Parts) → k < length round → q ≡ get_or round k q
-    → All IsKnown (take k round) → IsKnown q → All IsKnown (take (k + 1) round)
-known_more round k q short is all one =
-    subst (All IsKnown) (sym (take_more round k q short)) (All-push IsKnown (take k round) (get_or round k q) all (subst IsKnown is one))
-
 -- the layouts of the regions have no more slices than the pictures
-few_slices : (round : List Parts) → AllByRecursion IsKnown round
+few_slices : (round : List Parts) → AllByRecursion IsWhole round
     → sum_by (λ n. length n.slices) (layouts_in round) ≤ sum_by (λ q. length q.slices) round
 few_slices [] known = omega arith
 few_slices (q ∷ round) known =
@@ -124,7 +119,7 @@ few_slices (q ∷ round) known =
     let own : length (layout_of q).slices ≡ length (slices_of_subpicture q.layout.slices s) =
     length-map (slices_of_subpicture q.layout.slices s) (counted_from s) in
     let most = length-slices_of-le q.layout.slices s in
-    let whole = known.0.whole in
+    let whole = known.0 in
     let more = few_slices round known.1 in
     let layouts = sum_by-cons (λ (n : Numbers). length n.slices) (layout_of q) (layouts_in round) in
     let pictures = sum_by-cons (λ (p : Parts). length p.slices) q round in
@@ -141,6 +136,28 @@ sources_of tells reads regions makes (s ∷ corners) (q ∷ round) known sized =
   sources_of tells reads regions makes corners round known.1 sized.1,
 )
 
+-- a round whose sets break no rule can be joined
+pub joinable : SetsTellPartitions → ReadSlicesAreListable → RegionIsListable → RegionIsLayout → (corners : List Corner) (round : List Parts) → AreCorners corners
+    → length corners ≡ length round → Finds (length round) (several_subpictures round ∷ []) None → Finds (length round) (sps_tools round ∷ []) None
+    → ((e : FitFault) → ¬ IsFitFault (placed_in corners round) (ctb_of round) e) → ((k : ℕ) → ¬ IsLinesFault (corners_in corners round) (layouts_in round) k)
+    → Finds (length round) (too_many_slices round ∷ []) None → All AreInForce round → AreWhole round → CanBeJoined corners round
+joinable tells reads regions makes corners round are same alone alike fits lines slices sets whole =
+    let each = all_fit round (ctb_of round) sets alone alike refl in
+    let sized = all_sized tells corners round (ctb_of round) same each in
+    let known : AllByRecursion (λ q. AreInForce q × (subpics_of q.sps ≡ 1)) round =
+    recursion_from_All (λ q. AreInForce q × (subpics_of q.sps ≡ 1)) round (λ k d short. ((each k d short).0, (each k d short).1.0)) in
+    let some : 0 < length round = let some = are.some in omega (arith, some, same) in
+    let few : ¬ (most_slices < sum_by (λ q. length q.slices) round) = none_breaks (length round) (too_many_slices round) slices 0 some in
+    let fewer = few_slices round (recursion_from_All IsWhole round whole) in
+    record {
+      are = are;
+      same = same;
+      fits = fits;
+      lines = lines;
+      sources = sources_of tells reads regions makes (corners_in corners round) round known sized;
+      few = omega (arith, few, fewer);
+    }
+
 -- regions of which no fault was found have none
 no_misfit : (corners : List Corner) (round : List Parts) → FitFaultIsOne → 0 < length corners → length corners ≡ length round
     → Finds (length corners) (rules_of_fit (placed_in corners round) (ctb_of round)) None
@@ -152,26 +169,17 @@ no_misfit corners round one some same found e fault =
     (verdict_one (length corners) (rules_of_fit (placed_in corners round) (ctb_of round)) None (Some (fit_refusal e)) found.verdict
     (subst (λ n. IsVerdict n (rules_of_fit (placed_in corners round) (ctb_of round)) (Some (fit_refusal e))) size other.verdict))
 
+-- as does one that breaks no rule
 pub can_be_joined : SetsTellPartitions → ReadSlicesAreListable → RegionIsListable → RegionIsLayout → FitFaultIsOne
     → (corners : List Corner) (round : List Parts) → AreCorners corners → length corners ≡ length round
     → IsVerdict (length corners) (rules_of corners round) None → All IsKnown round → CanBeJoined corners round
 can_be_joined tells reads regions makes one corners round are same passes each_known =
-    let sets = All-weaker IsKnown AreInForce (λ q known. known.sets) round each_known in
-    let alone = subst (λ n. Finds n (several_subpictures round ∷ []) None) same (alone_found corners round same passes) in
-    let alike = subst (λ n. Finds n (sps_tools round ∷ []) None) same (sps_found corners round same passes) in
-    let each = all_fit round (ctb_of round) sets alone alike refl in
-    let sized = all_sized tells corners round (ctb_of round) same each in
-    let known : AllByRecursion (λ q. AreInForce q × (subpics_of q.sps ≡ 1)) round =
-    recursion_from_All (λ q. AreInForce q × (subpics_of q.sps ≡ 1)) round (λ k d short. ((each k d short).0, (each k d short).1.0)) in
     let count : length (corners_in corners round) ≡ length corners =
     length-map (placed_in corners round) (in_ctus (ctb_of round)) ∙ placed_length corners round same ∙ sym same in
-    let few : ¬ (most_slices < sum_by (λ q. length q.slices) round) = slices_few corners round same passes 0 are.some in
-    let fewer = few_slices round (recursion_from_All IsKnown round each_known) in
-    record {
-      are = are;
-      same = same;
-      fits = no_misfit corners round one are.some same (fit_found corners round same passes);
-      lines = λ k fault. lines_kept corners round same passes k (let short = fault.in_range in omega (arith, short, count)) fault;
-      sources = sources_of tells reads regions makes (corners_in corners round) round known sized;
-      few = omega (arith, few, fewer);
-    }
+    let at_round = λ (rules : List Rule) (found : Finds (length corners) rules None). subst (λ n. Finds n rules None) same found in
+    joinable tells reads regions makes corners round are same
+    (at_round (several_subpictures round ∷ []) (alone_found corners round same passes)) (at_round (sps_tools round ∷ []) (sps_found corners round same passes))
+    (no_misfit corners round one are.some same (fit_found corners round same passes))
+    (λ k fault. lines_kept corners round same passes k (let short = fault.in_range in omega (arith, short, count)) fault)
+    (at_round (too_many_slices round ∷ []) (slices_found corners round same passes))
+    (All-weaker IsKnown AreInForce (λ q known. known.sets) round each_known) (All-weaker IsKnown IsWhole (λ q known. known.whole) round each_known)

@@ -1,14 +1,16 @@
 -- Verdicts by rules one behind another.
-use Rattle.std.proofs.Common.{◌≡◌, ℕ, ◌<◌, List, [], ◌∷◌, ◌++◌, Option, Some, None, ap, sym, ◌∙◌, inl, inr}
+use Rattle.std.proofs.Common.{◌≡◌, ℕ, ◌<◌, List, [], ◌∷◌, ◌++◌, Option, Some, None, Err, ap, sym, ◌∙◌, inl, inr}
 use Rattle.std.proofs.lemmas.Option.{none-some}
 use Rattle.vx_bits.specs.declared.refusal.Refusal.{Refusal}
 use Rattle.vx_bits.specs.declared.refusal.Refusal.TheVariants.{Merge}
 use Rattle.vx_fit.specs.Lowest.{IsLowestAnswer}
 use Rattle.vx_fit.proofs.Single.{lowest_one}
+use Rattle.vx_write.specs.declared.fault.WriteError.{WriteError}
+use Rattle.vx_write.specs.declared.fault.WriteError.TheVariants as errors
 use Rattle.vx_merge.specs.Verdict.{Rule, IsVerdict}
 use Rattle.vx_merge.specs.declared.told.Differing.{Differing}
 use Rattle.vx_merge.specs.Rules.{of_field, of_source}
-use Rattle.vx_merge.specs.inner.Found.{Finds, IsLowestField, told_field, told_source}
+use Rattle.vx_merge.specs.inner.Found.{Finds, IsLowestField, Tries, told_field, told_source}
 
 pub verdict_one : (n : ℕ) (rules : List Rule) (a b : Option Refusal) → IsVerdict n rules a → IsVerdict n rules b → a ≡ b
 verdict_one n [] a b p q = p ∙ sym q
@@ -67,6 +69,30 @@ passed_all n (rule ∷ rules) more answer found others =
       | inl f ↦ record { verdict = inl (f.0, (passed_all n rules more answer (record { verdict = f.1 }) others).verdict) }
       | inr f ↦ absurd (none-some (rule.tells f.0) f.2)
     ]
+
+-- ---- where something is made as far as they let it
+
+-- an answer to the first of some rules
+pub tries_front : {A B : Type 0} (n : ℕ) (rules more : List Rule) (P : A → Type 0) (Q : B → Type 0) (e : WriteError) → Tries n rules P (Err e) → Tries n (rules ++ more) Q (Err e)
+tries_front n rules more P Q errors.Memory is = tt
+tries_front n rules more P Q errors.SinkFailed is = is
+tries_front n rules more P Q (errors.Refused r) is = broken_all n rules more r is
+tries_front n rules more P Q (errors.Stopped first) is = is
+
+-- and to those behind some that have passed
+pub tries_behind : {A B : Type 0} (n : ℕ) (rules more : List Rule) (P : A → Type 0) (Q : B → Type 0) (e : WriteError) → Finds n rules None → Tries n more P (Err e)
+    → Tries n (rules ++ more) Q (Err e)
+tries_behind n rules more P Q errors.Memory passed is = tt
+tries_behind n rules more P Q errors.SinkFailed passed is = is
+tries_behind n rules more P Q (errors.Refused r) passed is = passed_all n rules more (Some r) passed is
+tries_behind n rules more P Q (errors.Stopped first) passed is = is
+
+-- an error says the same whatever is to be made
+pub tries_other : {A B : Type 0} (n : ℕ) (rules : List Rule) (P : A → Type 0) (Q : B → Type 0) (e : WriteError) → Tries n rules P (Err e) → Tries n rules Q (Err e)
+tries_other n rules P Q errors.Memory is = is
+tries_other n rules P Q errors.SinkFailed is = is
+tries_other n rules P Q (errors.Refused r) is = is
+tries_other n rules P Q (errors.Stopped first) is = is
 
 -- ---- what the lowest source tells
 

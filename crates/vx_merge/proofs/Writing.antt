@@ -1,5 +1,5 @@
 -- What is answered of a round that was made, where it counts as written, is written, or breaks a limit.
-use Rattle.std.proofs.Common.{◌≡◌, ℕ, ◌+◌, ◌<◌, List, ◌∷◌, ◌++◌, length, Option, Some, None, Ok, Err, refl, sym, ap, subst, ◌∙◌, inr, length-append}
+use Rattle.std.proofs.Common.{◌≡◌, ℕ, ◌+◌, ◌<◌, List, ◌∷◌, ◌++◌, length, Option, Some, None, Ok, Err, refl, sym, ap, subst, ◌∙◌, inl, inr, length-append}
 use Rattle.std.specs.Prelude.{sum_by}
 use Rattle.std.proofs.lemmas.Grind.{flat_map-append}
 use Rattle.std.specs.List.{AllByRecursion}
@@ -18,15 +18,15 @@ use Rattle.vx_write.specs.Writing.{Takes}
 use Rattle.vx_write.specs.declared.fault.WriteError.{WriteError}
 use Rattle.vx_write.specs.declared.fault.WriteError.TheVariants as errors
 use Rattle.vx_merge.specs.declared.corner.Corner.{Corner}
-use Rattle.vx_merge.specs.declared.output.Made.{Made}
+use Rattle.vx_merge.specs.declared.output.RoundUnits.{RoundUnits}
 use Rattle.vx_merge.specs.Merging.{ChecksRound, IsBarred, Merging, Passes, WritesOneRound}
 use Rattle.vx_merge.specs.Rules.{rules_of}
 use Rattle.vx_merge.specs.Verdict.{IsVerdict}
 use Rattle.vx_bits.specs.Codes.{AreBytes}
 use Rattle.vx_merge.specs.Written.{limits_of}
-use Rattle.vx_merge.specs.inner.Counting.{Counts}
-use Rattle.vx_merge.specs.inner.Found.{Finds}
-use Rattle.vx_merge.specs.inner.Making.{AreLimits, IsMade, limits_by, size_of, slice_units, units_made}
+use Rattle.vx_merge.specs.inner.Counting.{MakesRound}
+use Rattle.vx_merge.specs.inner.Found.{Finds, Tries}
+use Rattle.vx_merge.specs.inner.Making.{AreLimits, AreRoundUnits, limits_by, size_of, slice_units, units_made}
 use Rattle.vx_merge.proofs.Limiting.{written_size}
 
 -- a merger that goes on
@@ -39,6 +39,14 @@ pub judged : (corners : List Corner) (round : List Parts) (found answer : Option
 judged corners round found answer same is finds =
     subst (λ n. IsVerdict n (rules_of corners round) answer) (sym same) (subst (IsVerdict (length round) (rules_of corners round)) is finds.verdict)
 
+-- an error of what is made where it breaks none is the answer
+pub tried_none : {A : Type 0} (corners : List Corner) (level : Option ℕ) (round : List Parts) (done : List Plan) (slots : List Sent) (bytes : ℕ) (P : A → Type 0) (e : WriteError)
+    → length corners ≡ length round → Tries (length round) (rules_of corners round) P (Err e) → ChecksRound round done (going corners level slots bytes) (Err e)
+tried_none corners level round done slots bytes P errors.Memory same is = tt
+tried_none corners level round done slots bytes P errors.SinkFailed same is = is
+tried_none corners level round done slots bytes P (errors.Refused r) same is = inl (judged corners round (Some r) (Some r) same refl is)
+tried_none corners level round done slots bytes P (errors.Stopped first) same is = is
+
 -- the bytes of the stream with the units of one picture more
 stream_size : (done : List Plan) (p : Plan) (us : List (List ℕ)) (bytes : ℕ) → bytes ≡ length (written (units_written done)) → units_of p ≡ us
     → length (written (units_written (p ∷ done))) ≡ bytes + size_of 4 us
@@ -47,9 +55,9 @@ stream_size done p us bytes so_far are =
     ∙ (length-append (written (units_written done)) (written (units_of p))
     ∙ (ap (λ n. n + length (written (units_of p))) (sym so_far) ∙ ap (λ n. bytes + n) (written_size (units_of p) ∙ ap (size_of 4) are)))
 
-module _ (corners : List Corner) (level : Option ℕ) (round : List Parts) (done : List Plan) (m : Made) (slots : List Sent) (bytes : ℕ)
+module _ (corners : List Corner) (level : Option ℕ) (round : List Parts) (done : List Plan) (m : RoundUnits) (slots : List Sent) (bytes : ℕ)
     (some : 0 < length corners) (sound : IsVerdict (length corners) (rules_of corners round) None)
-    (made : IsMade corners level round (history_of done) m slots) (all : AllByRecursion AreBytes (units_made m)) (so_far : bytes ≡ length (written (units_written done))) where
+    (made : AreRoundUnits corners level round (history_of done) m slots) (all : AllByRecursion AreBytes (units_made m)) (so_far : bytes ≡ length (written (units_written done))) where
   limits : (answer : Option Refusal) → AreLimits m bytes answer → IsVerdict (length corners) (limits_of done made.plan) answer
   limits answer are =
       let n = length corners in
@@ -64,7 +72,7 @@ module _ (corners : List Corner) (level : Option ℕ) (round : List Parts) (done
   passes are = record { verdict = sound; is = made.is done refl all; limits = limits None are }
 
   pub counts_all : (total : ℕ) → AreLimits m bytes None → total ≡ bytes + size_of 4 (units_made m)
-      → Counts round done (going corners level slots total) (Ok m)
+      → MakesRound round done (going corners level slots total) (Ok m)
   counts_all total are is = (
     made.plan,
     passes are,
@@ -76,21 +84,21 @@ module _ (corners : List Corner) (level : Option ℕ) (round : List Parts) (done
     made.units,
   )
 
-  pub counts_none : (total : ℕ) (r : Refusal) → AreLimits m bytes (Some r) → Counts round done (going corners level slots total) (Err (errors.Refused r))
+  pub counts_none : (total : ℕ) (r : Refusal) → AreLimits m bytes (Some r) → MakesRound round done (going corners level slots total) (Err (errors.Refused r))
   counts_none total r are = inr (record { verdict = sound; plan = made.plan; is = made.is done refl all; limits = limits (Some r) are })
 
 -- ---- of what counts as written
 
-pub checks_counted : (round : List Parts) (done : List Plan) (x : Merging) (m : Made) → Counts round done x (Ok m) → ChecksRound round done x (Ok tt)
+pub checks_counted : (round : List Parts) (done : List Plan) (x : Merging) (m : RoundUnits) → MakesRound round done x (Ok m) → ChecksRound round done x (Ok tt)
 checks_counted round done x m is = (is.0, is.1, is.2)
 
-pub writes_counted : (round : List Parts) (done : List Plan) (x : Merging) (m : Made) (a b : Option (List ℕ)) (k l : ℕ) → Counts round done x (Ok m)
+pub writes_counted : (round : List Parts) (done : List Plan) (x : Merging) (m : RoundUnits) (a b : Option (List ℕ)) (k l : ℕ) → MakesRound round done x (Ok m)
     → Takes a b k l (units_made m) (Ok tt) → WritesOneRound round done x a b k l (Ok tt)
 writes_counted round done x m a b k l is took =
     (took.faults, (is.0, is.1, subst (λ us. Appends a b (written us)) (sym is.3) took.ok, is.2))
 
-pub writes_front : (round : List Parts) (done : List Plan) (x : Merging) (m : Made) (a b : Option (List ℕ)) (k l : ℕ) (e : SinkFailed)
-    → Counts round done x (Ok m) → Takes a b k l (units_made m) (Err e) → WritesOneRound round done x a b k l (Err errors.SinkFailed)
+pub writes_front : (round : List Parts) (done : List Plan) (x : Merging) (m : RoundUnits) (a b : Option (List ℕ)) (k l : ℕ) (e : SinkFailed)
+    → MakesRound round done x (Ok m) → Takes a b k l (units_made m) (Err e) → WritesOneRound round done x a b k l (Err errors.SinkFailed)
 writes_front round done x m a b k l e is took =
     (took.faults, (is.0, is.1, subst (λ us. AppendsFront a b (written us)) (sym is.3) took.err))
 

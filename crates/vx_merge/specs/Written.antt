@@ -4,7 +4,8 @@ use Rattle.std.specs.List.{AllByRecursion, AllZip}
 use Rattle.vx_bits.specs.Codes.{AreBytes}
 use Rattle.vx_bits.specs.declared.list.Item.{Item}
 use Rattle.vx_bits.specs.declared.rules.TheConstants as rules
-use Rattle.vx_annexb.specs.ByteStream.{source_limit, unit_limit}
+use Rattle.vx_bits.specs.Limits.{unit_limit}
+use Rattle.vx_annexb.specs.ByteStream.{source_limit}
 use Rattle.vx_annexb.specs.Laws.{written}
 use Rattle.vx_sps.specs.Reshaped as sps_reshaped
 use Rattle.vx_pps.specs.Reshaped as pps_reshaped

@@ -5,12 +5,12 @@ pub mod Edges
 pub mod Found
 pub mod Fronts
 pub mod Gathered
-pub mod Joined
+pub mod Geometry
 pub mod Known
 pub mod Making
 pub mod Progress
 pub mod Ready
 pub mod Sending
-pub mod Settled
+pub mod Frames
 pub mod Taking
 pub mod Tools

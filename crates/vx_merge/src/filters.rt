@@ -1,6 +1,7 @@
 //! The bodies of adaptive loop filters that slices have in force.
-ghost use Rattle.std.specs.Prelude.{◌≡◌, ◌<◌, ◌≤◌, ◌∷◌, [], length, map, option_copied, option_to_list, IfOk, OnOk};
+ghost use Rattle.std.specs.Prelude.{◌≡◌, ◌<◌, ◌≤◌, ◌∷◌, [], List, length, map, option_copied, option_to_list, IfOk, OnOk};
 ghost use Rattle.std.specs.Bool.{OnTrue, OnFalse};
+ghost use Rattle.vx_pic.specs.Parts.{Parts};
 ghost use Rattle.vx_pic.specs.Resident as resident;
 ghost use Rattle.vx_merge.specs.Bodies as words;
 ghost use Rattle.vx_merge.specs.Rules as rules;
@@ -140,13 +141,9 @@ pub(crate) fn round_filters<'a>(
     })
 }
 
-/// Whether the slices of all pictures have more bodies of adaptive loop filters than there are ids.
-pub(crate) fn too_many_filters(
-    _round: &[Picture<'_>],
-    filters: &RoundFilters<'_>,
-) -> Option<Refusal>
-    requires { AreFilters _round.now filters.now }
-    ensures { Finds (length _round.now) (rules.too_many_filters _round.now ∷ []) result }
+/// Whether the slices of a round with these filters have more bodies of adaptive loop filters than there are ids.
+pub(crate) fn too_many_filters(filters: &RoundFilters<'_>) -> Option<Refusal>
+    ensures { (round : List Parts) → AreFilters round filters.now → Finds (length round) (rules.too_many_filters round ∷ []) result }
 {
     of_source(TOO_MANY_ALF, filters.too_many)
 }

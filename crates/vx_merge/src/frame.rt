@@ -1,212 +1,304 @@
-//! The rules on the frame that regions make up.
-ghost use Rattle.std.specs.Prelude.{◌≡◌, ◌<◌, ◌≤◌, ◌∷◌, [], All, length, map, sum_by, IfOk, OnOk, None};
-ghost use Rattle.std.specs.List.{AllZip};
-ghost use Rattle.vx_fit.specs.FrameLines.{IsLinesFault};
-ghost use Rattle.vx_fit.specs.Lowest.{IsLowestAnswer};
-ghost use Rattle.vx_fit.specs.Placing as placing;
-ghost use Rattle.vx_fit.specs.Placing.{FitTogether, IsInRange};
-ghost use Rattle.vx_fit.specs.Sources.{IsFitted, IsSized};
+//! The frame of a round: what is made of its sets alone, and kept for rounds with the same sets.
+ghost use Rattle.std.specs.Prelude.{◌≡◌, ◌≢◌, ◌<◌, All, List, Option, ℕ, length, map, IfOk, IfSome, OnOk};
+ghost use Rattle.std.specs.Bool.{OnTrue};
+ghost use Rattle.vx_layout.specs.Faults.{IsInLimits, IsLayout};
 ghost use Rattle.vx_write.specs.InForce.{AreInForce};
-ghost use Rattle.vx_merge.specs.Merging.{IsCorner};
-ghost use Rattle.vx_merge.specs.Regions as regions;
-ghost use Rattle.vx_merge.specs.Rules as rules;
-ghost use Rattle.vx_merge.specs.inner.Found as found;
-ghost use Rattle.vx_merge.specs.inner.Found.{Finds};
+ghost use Rattle.vx_merge.specs.declared.corner.Corner.{Corner as AnyCorner};
+ghost use Rattle.vx_merge.specs.Merging.{AreCorners};
+ghost use Rattle.vx_merge.specs.Rules.{rules_of_sets};
+ghost use Rattle.vx_merge.specs.inner.Found.{Tries};
+ghost use Rattle.vx_merge.specs.inner.Frames as words;
+ghost use Rattle.vx_merge.specs.inner.Frames.{AreSetsOf, HasPps, HasSetsOf, IsFrameOf, IsKeptFrame, IsPpsFor, IsRoundFrame, IsSomeKept, IsSomeRound, IsSomeUsed, IsSpsFor, ServesAs};
+ghost use Rattle.vx_merge.specs.inner.Geometry.{IsRoundGeometry, IsSomeGeometry, OfGeometry};
 
 use crate::corner::Corner;
-use crate::told::of_source;
+use crate::frame_sets::{copied_numbers, frame_pps, frame_sps};
+use crate::geometry::{FrameGeometry, frame_geometry};
+use crate::items::same_items;
+use crate::regions::too_many_slices;
 use std::alloc::{AllocError, Global};
-use vx_bits::Refusal;
-use vx_bits::rules::{GEOMETRY, REGION_ORDER, TILE_LINES, TOO_LARGE, TOO_MANY_SLICES};
-use vx_fit::{
-    FitFault, LineError, Placed, fit_fault_is_one, fit_lines, fit_regions, lines_are_one,
-};
-use vx_layout::{Numbers, Rect};
+use vx_bits::Fields;
+use vx_layout::{Layout, LayoutError};
 use vx_pic::Picture;
-use vx_write::sets_in_force;
+use vx_pps::Pps;
+use vx_sps::Sps;
+use vx_write::{WriteError, copied, sets_in_force};
 
-/// The most slices of a picture.
-const MOST_SLICES: u32 = 1000;
+/// The items of the sets of a source's picture.
+#[derive(Drop)]
+pub(crate) struct SourceSets {
+    /// Of the SPS.
+    pub(crate) sps: Fields,
+    /// Of the PPS.
+    pub(crate) pps: Fields,
+}
 
-// ---- regions
+/// The frame's PPS with another id than 0.
+#[derive(Drop)]
+pub(crate) struct RenamedPps {
+    /// Its id.
+    pub(crate) id: u8,
+    /// The PPS.
+    pub(crate) pps: Pps,
+}
 
-/// The region of a picture with its upper left corner here, as its sets have it.
-fn region_at(corner: Corner, picture: &Picture<'_>) -> Placed
-    ensures { result ≡ regions.placed_at corner picture.now }
+/// The frame of a round, made of its sets alone: kept as long as these stay.
+#[derive(Drop)]
+pub(crate) struct Frame {
+    /// The sets of each source.
+    pub(crate) sources: Vec<SourceSets>,
+    /// Its geometry.
+    pub(crate) geometry: FrameGeometry,
+    /// Its layout.
+    pub(crate) layout: Layout,
+    /// Its SPS, of id 0.
+    pub(crate) sps: Sps,
+    /// Its PPS with the id 0.
+    pub(crate) plain: Pps,
+    /// Its PPS with the last other id that it took.
+    pub(crate) renamed: Option<RenamedPps>,
+}
+
+/// What there is of the frame of a round whose sets break no rule on them.
+#[derive(Drop)]
+pub(crate) enum RoundFrame {
+    /// It was kept, and made of the same sets.
+    Kept(Frame),
+    /// It is new, and has this geometry.
+    New(FrameGeometry),
+}
+
+// ---- the sets of a round
+
+/// The sets of a picture.
+fn sets_of(alloc: Global, picture: &Picture<'_>) -> Result<SourceSets, AllocError>
+    requires { AreInForce picture.now }
+    ensures { IfOk result (λ own. words.sets_in own ≡ words.sets_of picture.now) }
 {
-    let pps = picture.pps();
-    Placed {
-        x: corner.x,
-        y: corner.y,
-        w: pps.width(),
-        h: pps.height(),
+    let sps = copied(alloc, picture.sps().fields())?;
+    let pps = copied(alloc, picture.pps().fields())?;
+    Ok(SourceSets { sps, pps })
+}
+
+/// The sets of each picture.
+fn sources(alloc: Global, round: &[Picture<'_>]) -> Result<Vec<SourceSets>, AllocError>
+    requires { All AreInForce round.now }
+    ensures { IfOk result (λ own. AreSetsOf round.now own.items) }
+{
+    let mut sources = Vec::new(alloc);
+    for k in 0..round.len() {
+        sources.push(sets_of(alloc, &round[k])?)?;
     }
+    Ok(sources)
 }
 
-/// The region of a picture with its upper left corner here.
-fn placed_at(corner: Corner, picture: &Picture<'_>) -> Placed
-    requires { IsCorner corner }
-    ensures placed { result ≡ regions.placed_at corner picture.now }
-    ensures range { IsInRange result }
+/// Whether a picture has these sets.
+fn has_sets(picture: &Picture<'_>, own: &SourceSets) -> bool
+    ensures same { OnTrue result (words.sets_in own.now ≡ words.sets_of picture.now) }
+    ensures sets { AreInForce picture.now }
 {
+    // It reads nothing: what is known of a picture is told by its calls alone.
     sets_in_force(picture);
-    region_at(corner, picture)
+    if !same_items(&own.sps, picture.sps().fields()) {
+        return false;
+    }
+    if !same_items(&own.pps, picture.pps().fields()) {
+        return false;
+    }
+    true
 }
 
-/// The regions of the pictures at their corners.
-pub(crate) fn placed(
+/// Whether the pictures of a round have these sets.
+fn have_sets(round: &[Picture<'_>], sources: &[SourceSets]) -> bool
+    requires { length sources.now ≡ length round.now }
+    ensures same { OnTrue result (AreSetsOf round.now sources.now) }
+    ensures sets { OnTrue result (All AreInForce round.now) }
+{
+    for k in 0..round.len() {
+        if !has_sets(&round[k], &sources[k]) {
+            return false;
+        }
+    }
+    true
+}
+
+// ---- what the rules on sets leave
+
+/// A new frame.
+fn new_frame(
     alloc: Global,
     corners: &[Corner],
     round: &[Picture<'_>],
-) -> Result<Vec<Placed>, AllocError>
+) -> Result<RoundFrame, WriteError>
+    requires corners { AreCorners corners.now }
     requires same { length corners.now ≡ length round.now }
-    requires corners { All IsCorner corners.now }
-    ensures placed { IfOk result (λ placed. placed.items ≡ regions.placed_in corners.now round.now) }
-    ensures range { IfOk result (λ placed. All IsInRange placed.items) }
+    ensures { (level : Option ℕ) → Tries (length round.now) (rules_of_sets corners.now round.now) (IsRoundFrame corners.now level round.now) result }
 {
-    let mut placed = Vec::new(alloc);
-    for k in 0..round.len() {
-        placed.push(placed_at(corners[k], &round[k]))?;
-    }
-    Ok(placed)
+    let geometry = frame_geometry(alloc, corners, round)?;
+    Ok(RoundFrame::New(geometry))
 }
 
-/// What is told of a frame's regions that don't fit together.
-fn fit_refusal(fault: FitFault) -> Refusal
-    ensures { result ≡ found.fit_refusal fault }
-{
-    match fault {
-        FitFault::TooLarge => Refusal::Limit { code: TOO_LARGE },
-        FitFault::Geometry(source) => Refusal::Merge {
-            code: GEOMETRY,
-            source,
-            field: 0,
-        },
-        FitFault::Order(source) => Refusal::Merge {
-            code: REGION_ORDER,
-            source,
-            field: 0,
-        },
-    }
-}
-
-/// Whether the regions don't fit together, for CTUs of `ctb` times `ctb` samples.
-pub(crate) fn misfit(placed: &[Placed], ctb: u32) -> Option<Refusal>
-    requires count { (0 < length placed.now) × (length placed.now ≤ 64) }
-    requires numbers { All IsInRange placed.now }
-    requires ctb { 1 ≤ ctb }
-    ensures found { Finds (length placed.now) (rules.rules_of_fit placed.now ctb) result }
-    ensures fit { result ≡ None → FitTogether placed.now ctb }
-{
-    fit_fault_is_one();
-    match fit_regions(placed, ctb) {
-        Ok(_) => None,
-        Err(fault) => Some(fit_refusal(fault)),
-    }
-}
-
-/// The regions in CTUs.
-pub(crate) fn in_ctus(alloc: Global, placed: &[Placed], ctb: u32) -> Result<Vec<Rect>, AllocError>
-    requires { 1 ≤ ctb }
-    ensures { IfOk result (λ corners. corners.items ≡ map (placing.in_ctus ctb) placed.now) }
-{
-    placed.iter().map(|p| p.in_ctus(ctb)).collect(alloc)
-}
-
-// ---- tile lines
-
-/// The layout of a picture's first subpicture.
-fn layout_of(alloc: Global, picture: &Picture<'_>) -> Result<Numbers, AllocError>
-    ensures layout { IfOk result (λ layout. layout ≡ regions.layout_of picture.now) }
-    ensures sets { AreInForce picture.now }
-{
-    sets_in_force(picture);
-    picture.layout().region(alloc, 0)
-}
-
-/// The layouts of the pictures.
-pub(crate) fn layouts(alloc: Global, round: &[Picture<'_>]) -> Result<Vec<Numbers>, AllocError>
-    ensures layouts { IfOk result (λ layouts. layouts.items ≡ regions.layouts_in round.now) }
-    ensures sets { OnOk result (All AreInForce round.now) }
-{
-    let mut layouts = Vec::new(alloc);
-    for k in 0..round.len() {
-        let layout = layout_of(alloc, &round[k])?;
-        layouts.push(layout)?;
-    }
-    Ok(layouts)
-}
-
-/// The region that an error names.
-fn named_region(error: LineError) -> Result<Option<u16>, AllocError>
-    ensures { IfOk result (found.Names error) }
-{
-    match error {
-        LineError::Lines(k) => Ok(Some(k)),
-        LineError::Memory => Err(AllocError),
-    }
-}
-
-/// The lowest region through which tile lines don't pass as they should.
-fn lowest_crossed(
+/// The frame of a round: the one that was kept, where it was made of the same sets, or else a new one.
+///
+/// # Errors
+///
+/// The first rule that the sets break, or want of memory.
+pub(crate) fn round_frame(
     alloc: Global,
-    corners: &[Rect],
-    parts: &[Numbers],
-) -> Result<Option<u16>, AllocError>
-    requires count { (1 ≤ length corners.now) × (length corners.now ≤ 64) }
-    requires sized { AllZip IsSized corners.now parts.now }
-    requires fitted { IsFitted corners.now }
-    ensures { IfOk result (IsLowestAnswer (length corners.now) (IsLinesFault corners.now parts.now)) }
+    corners: &[Corner],
+    kept: Option<Frame>,
+    round: &[Picture<'_>],
+) -> Result<RoundFrame, WriteError>
+    requires corners { AreCorners corners.now }
+    requires same { length corners.now ≡ length round.now }
+    requires kept { IfSome kept (IsSomeKept corners.now) }
+    ensures { (level : Option ℕ) → IfSome kept (IsKeptFrame corners.now level)
+        → Tries (length round.now) (rules_of_sets corners.now round.now) (IsRoundFrame corners.now level round.now) result }
 {
-    lines_are_one();
-    if let Err(error) = fit_lines(alloc, corners, parts) {
-        return named_region(error);
+    let Some(frame) = kept else {
+        return new_frame(alloc, corners, round);
+    };
+    if !have_sets(round, frame.sources.as_slice()) {
+        return new_frame(alloc, corners, round);
     }
-    Ok(None)
+    if let Some(refusal) = too_many_slices(round) {
+        return Err(WriteError::Refused(refusal));
+    }
+    Ok(RoundFrame::Kept(frame))
 }
 
-/// Whether tile lines of the frame don't pass through a region as its own do.
-pub(crate) fn tile_lines(
+// ---- what is made of them
+
+/// The layout of a frame.
+fn layout_of(alloc: Global, geometry: &FrameGeometry) -> Result<Layout, AllocError>
+    requires layout { IsLayout geometry.now.numbers }
+    requires limits { IsInLimits geometry.now.numbers }
+    ensures { IfOk result (λ layout. layout ≡ geometry.now.numbers) }
+{
+    let numbers = copied_numbers(alloc, &geometry.numbers)?;
+    match Layout::new(alloc, numbers) {
+        Ok(layout) => Ok(layout),
+        Err(LayoutError::Memory) => Err(AllocError),
+        Err(LayoutError::Fault(_)) => unreachable!(),
+    }
+}
+
+/// The SPS of a frame, at a level, or at the highest of its pictures, and its PPS with the id 0.
+fn sets_for(
     alloc: Global,
-    placed: &[Placed],
-    ctb: u32,
-    layouts: &[Numbers],
-) -> Result<Option<Refusal>, AllocError>
-    requires count { (0 < length placed.now) × (length placed.now ≤ 64) }
-    requires ctb { 1 ≤ ctb }
-    requires fit { FitTogether placed.now ctb }
-    requires sized { AllZip IsSized (map (placing.in_ctus ctb) placed.now) layouts.now }
-    ensures { IfOk result (Finds (length placed.now) (rules.tile_lines (map (placing.in_ctus ctb) placed.now) layouts.now ∷ [])) }
+    round: &[Picture<'_>],
+    geometry: &FrameGeometry,
+    level: Option<u8>,
+) -> Result<(Sps, Pps), AllocError>
+    requires { IsSomeGeometry round.now geometry.now }
+    ensures sps { IfOk result (λ sets. OfGeometry round.now geometry.now (λ corners. IsSpsFor corners round.now level sets.0)) }
+    ensures pps { IfOk result (λ sets. OfGeometry round.now geometry.now (λ corners. IsPpsFor corners round.now geometry.now.numbers 0 sets.1)) }
 {
-    let made = in_ctus(alloc, placed, ctb)?;
-    let corners = made.as_slice();
-    let lowest = lowest_crossed(alloc, corners, layouts)?;
-    Ok(of_source(TILE_LINES, lowest))
+    let sps = frame_sps(alloc, round, geometry, level)?;
+    let pps = frame_pps(alloc, round, geometry, 0)?;
+    Ok((sps, pps))
 }
 
-// ---- slices
-
-/// How many slices all pictures have together.
-fn slice_count(round: &[Picture<'_>]) -> u32
-    requires { length round.now ≤ 64 }
-    ensures { result ≡ sum_by (λ q. length q.slices) round.now }
+/// The frame with a geometry.
+#[cold]
+#[inline(never)]
+fn frame_with(
+    alloc: Global,
+    level: Option<u8>,
+    geometry: FrameGeometry,
+    round: &[Picture<'_>],
+) -> Result<Frame, AllocError>
+    requires { (corners : List AnyCorner) × IsRoundGeometry corners round.now geometry }
+    ensures { (corners : List AnyCorner) → IsRoundGeometry corners round.now geometry → IfOk result (IsFrameOf corners level round.now) }
 {
-    let mut count = 0;
-    for k in 0..round.len() {
-        count += round[k].slice_count();
-    }
-    count
+    let sources = sources(alloc, round)?;
+    let layout = layout_of(alloc, &geometry)?;
+    let (sps, plain) = sets_for(alloc, round, &geometry, level)?;
+    Ok(Frame {
+        sources,
+        geometry,
+        layout,
+        sps,
+        plain,
+        renamed: None,
+    })
 }
 
-/// Whether all pictures together have more slices than a picture may have.
-pub(crate) fn too_many_slices(round: &[Picture<'_>]) -> Option<Refusal>
-    requires { (0 < length round.now) × (length round.now ≤ 64) }
-    ensures { Finds (length round.now) (rules.too_many_slices round.now ∷ []) result }
+/// The frame of a round.
+pub(crate) fn whole_frame(
+    alloc: Global,
+    level: Option<u8>,
+    frame: RoundFrame,
+    round: &[Picture<'_>],
+) -> Result<Frame, AllocError>
+    requires { IsSomeRound level round.now frame }
+    ensures { (corners : List AnyCorner) → IsRoundFrame corners level round.now frame → IfOk result (IsFrameOf corners level round.now) }
 {
-    if MOST_SLICES < slice_count(round) {
-        return Some(Refusal::Limit {
-            code: TOO_MANY_SLICES,
-        });
+    match frame {
+        RoundFrame::Kept(frame) => Ok(frame),
+        RoundFrame::New(geometry) => frame_with(alloc, level, geometry, round),
     }
-    None
+}
+
+// ---- its PPS under an id
+
+/// Whether this is the PPS with an id.
+fn is_renamed(renamed: &Option<RenamedPps>, id: u8) -> bool
+    ensures { result ≡ words.is_renamed renamed.now id }
+{
+    match renamed {
+        Some(renamed) => renamed.id == id,
+        None => false,
+    }
+}
+
+/// Makes its PPS under an id.
+#[cold]
+#[inline(never)]
+fn rename_pps(
+    alloc: Global,
+    frame: &mut Frame,
+    round: &[Picture<'_>],
+    id: u8,
+) -> Result<(), AllocError>
+    requires used { IsSomeUsed round.now frame.old }
+    requires id { id < 64 }
+    requires other { id ≢ 0 }
+    ensures same { OnOk result (ServesAs round.now frame.old frame.new) }
+    ensures pps { OnOk result (HasPps round.now id frame.new) }
+{
+    let pps = frame_pps(alloc, round, &frame.geometry, id)?;
+    frame.renamed = Some(RenamedPps { id, pps });
+    Ok(())
+}
+
+/// Has its PPS under an id, made anew unless it is there.
+pub(crate) fn have_pps(
+    alloc: Global,
+    frame: &mut Frame,
+    round: &[Picture<'_>],
+    id: u8,
+) -> Result<(), AllocError>
+    requires used { IsSomeUsed round.now frame.old }
+    requires id { id < 64 }
+    ensures same { OnOk result (ServesAs round.now frame.old frame.new) }
+    ensures pps { OnOk result (HasPps round.now id frame.new) }
+{
+    if id == 0 || is_renamed(&frame.renamed, id) {
+        return Ok(());
+    }
+    rename_pps(alloc, frame, round, id)
+}
+
+/// Its PPS under an id that it has.
+pub(crate) fn pps_under(frame: &Frame, id: u8) -> &Pps
+    ensures { result.now ≡ words.pps_under frame.now id }
+{
+    if id == 0 {
+        return &frame.plain;
+    }
+    match &frame.renamed {
+        Some(renamed) => &renamed.pps,
+        None => &frame.plain,
+    }
 }

@@ -4,10 +4,10 @@ ghost use Rattle.vx_sps.specs.Reshaped as sps_reshaped;
 ghost use Rattle.vx_pps.specs.Reshaped as pps_reshaped;
 ghost use Rattle.vx_merge.specs.Rounds.{picture_at};
 ghost use Rattle.vx_merge.specs.Shapes as spec;
-ghost use Rattle.vx_merge.specs.inner.Joined.{IsSomeFrame, OfFrame};
+ghost use Rattle.vx_merge.specs.inner.Geometry.{IsSomeGeometry, OfGeometry};
 
 use crate::borders::{Pieces, lowest_crosses};
-use crate::joined::Frame;
+use crate::geometry::FrameGeometry;
 use crate::shapes::{dpb, init_qp, level_of, window};
 use std::alloc::{AllocError, Global};
 use vx_layout::{Bounds, Numbers, RectList};
@@ -55,11 +55,11 @@ pub(crate) fn copied_numbers(alloc: Global, numbers: &Numbers) -> Result<Numbers
 fn sps_shape(
     alloc: Global,
     round: &[Picture<'_>],
-    frame: &Frame,
+    frame: &FrameGeometry,
     level: Option<u8>,
 ) -> Result<SpsShape, AllocError>
-    requires { IsSomeFrame round.now frame.now }
-    ensures { IfOk result (λ shape. OfFrame round.now frame.now (λ corners. shape ≡ spec.frame_sps_shape corners round.now level)) }
+    requires { IsSomeGeometry round.now frame.now }
+    ensures { IfOk result (λ shape. OfGeometry round.now frame.now (λ corners. shape ≡ spec.frame_sps_shape corners round.now level)) }
 {
     let placed = frame.placed.as_slice();
     let regions = copied(alloc, &frame.numbers.subpics)?;
@@ -78,11 +78,11 @@ fn sps_shape(
 pub(crate) fn frame_sps(
     alloc: Global,
     round: &[Picture<'_>],
-    frame: &Frame,
+    frame: &FrameGeometry,
     level: Option<u8>,
 ) -> Result<Sps, AllocError>
-    requires { IsSomeFrame round.now frame.now }
-    ensures { IfOk result (λ sps. OfFrame round.now frame.now (λ corners. sps_reshaped.IsReshapedSps (picture_at round.now 0).sps (spec.frame_sps_shape corners round.now level) sps)) }
+    requires { IsSomeGeometry round.now frame.now }
+    ensures { IfOk result (λ sps. OfGeometry round.now frame.now (λ corners. sps_reshaped.IsReshapedSps (picture_at round.now 0).sps (spec.frame_sps_shape corners round.now level) sps)) }
 {
     let shape = sps_shape(alloc, round, frame, level)?;
     reshape_sps(alloc, round[0].sps(), &shape)
@@ -92,11 +92,11 @@ pub(crate) fn frame_sps(
 fn pps_shape(
     alloc: Global,
     round: &[Picture<'_>],
-    frame: &Frame,
+    frame: &FrameGeometry,
     id: u8,
 ) -> Result<PpsShape, AllocError>
-    requires { IsSomeFrame round.now frame.now }
-    ensures { IfOk result (λ shape. OfFrame round.now frame.now (λ corners. shape ≡ spec.frame_pps_shape corners round.now frame.now.numbers id)) }
+    requires { IsSomeGeometry round.now frame.now }
+    ensures { IfOk result (λ shape. OfGeometry round.now frame.now (λ corners. shape ≡ spec.frame_pps_shape corners round.now frame.now.numbers id)) }
 {
     let layouts = frame.layouts.as_slice();
     let columns = copied_bounds(alloc, &frame.numbers.columns)?;
@@ -122,12 +122,12 @@ fn pps_shape(
 pub(crate) fn frame_pps(
     alloc: Global,
     round: &[Picture<'_>],
-    frame: &Frame,
+    frame: &FrameGeometry,
     id: u8,
 ) -> Result<Pps, AllocError>
-    requires frame { IsSomeFrame round.now frame.now }
+    requires frame { IsSomeGeometry round.now frame.now }
     requires id { id < 64 }
-    ensures { IfOk result (λ pps. OfFrame round.now frame.now (λ corners. pps_reshaped.IsReshapedPps (picture_at round.now 0).pps (spec.frame_pps_shape corners round.now frame.now.numbers id) pps)) }
+    ensures { IfOk result (λ pps. OfGeometry round.now frame.now (λ corners. pps_reshaped.IsReshapedPps (picture_at round.now 0).pps (spec.frame_pps_shape corners round.now frame.now.numbers id) pps)) }
 {
     let shape = pps_shape(alloc, round, frame, id)?;
     reshape_pps(alloc, round[0].pps(), &shape)

@@ -1,10 +1,10 @@
 //! The ids that the bodies of one type of adaptation parameter sets take.
-ghost use Rattle.std.specs.Prelude.{◌≡◌, ◌==◌, ◌<◌, ◌≤◌, List, length, map, IfOk};
+ghost use Rattle.std.specs.Prelude.{◌≡◌, ◌==◌, ◌<◌, ◌≤◌, List, true, false, length, map, IfOk};
 ghost use Rattle.std.specs.List.{list_any};
-ghost use Rattle.vx_fit.specs.Lowest.{IsLowestAnswer};
+ghost use Rattle.vx_fit.specs.Lowest.{IsLowest, IsLowestAnswer};
 ghost use Rattle.vx_pic.specs.Written.{SetUnit};
 ghost use Rattle.vx_write.specs.Slots as sent_sets;
-ghost use Rattle.vx_write.specs.Slots.{AreLastOf};
+ghost use Rattle.vx_write.specs.Slots.{AreLastOf, Sent};
 ghost use Rattle.vx_merge.specs.Needed.{aps_of_body};
 ghost use Rattle.vx_merge.specs.Slots.{TakeSlots};
 ghost use Rattle.vx_merge.specs.inner.Taking as taking;
@@ -103,50 +103,47 @@ fn is_empty(slots: &Slots, search: Search, id: u8) -> bool
     slots.is_vacant(NeededSet::Aps(NeededAps { kind, id, body }))
 }
 
-/// Whether an id can be taken: it isn't, and nothing was sent with it where that is wanted.
-fn is_open(
-    slots: &Slots,
-    search: Search,
-    held: &[Option<u8>],
-    ids: &[u8],
-    empty: bool,
-    id: u8,
-) -> bool
-    ensures { result ≡ taking.is_open slots.now search.kind held.now ids.now empty id }
+/// Whether an id is open: it isn't taken, and nothing was sent with it.
+fn is_open(slots: &Slots, search: Search, held: &[Option<u8>], ids: &[u8], id: u8) -> bool
+    ensures { result ≡ taking.is_open slots.now search.kind held.now ids.now true id }
 {
-    !is_taken(held, ids, id) && (!empty || is_empty(slots, search, id))
+    !is_taken(held, ids, id) && is_empty(slots, search, id)
 }
 
-/// The lowest id that can be taken.
-fn lowest_open(
-    slots: &Slots,
-    search: Search,
-    held: &[Option<u8>],
-    ids: &[u8],
-    empty: bool,
-) -> Option<u8>
-    ensures { IsLowestAnswer search.count (taking.IsOpen slots.now search.kind held.now ids.now empty) result }
+/// The lowest id that is open.
+fn lowest_open(slots: &Slots, search: Search, held: &[Option<u8>], ids: &[u8]) -> Option<u8>
+    ensures { IsLowestAnswer search.count (taking.IsOpen slots.now search.kind held.now ids.now true) result }
 {
     for id in 0..search.count {
-        if is_open(slots, search, held, ids, empty, id) {
+        if is_open(slots, search, held, ids, id) {
             return Some(id);
         }
     }
     None
 }
 
-/// The id of a body that isn't resident: the lowest empty one that isn't taken, or else the lowest that isn't taken.
+/// The lowest id that isn't taken. There is one: there are no more bodies than ids.
+fn lowest_free(search: Search, held: &[Option<u8>], ids: &[u8]) -> u8
+    requires few { length held.now ≤ search.count }
+    requires room { taking.HasRoom held.now ids.now }
+    ensures { (sent : List Sent) → IsLowest search.count (taking.IsOpen sent search.kind held.now ids.now false) result }
+{
+    let mut id = 0;
+    while is_taken(held, ids, id) {
+        id += 1;
+    }
+    id
+}
+
+/// The id of a body that isn't resident: the lowest open one, or else the lowest that isn't taken.
 fn new_id(slots: &Slots, search: Search, held: &[Option<u8>], ids: &[u8]) -> u8
     requires few { length held.now ≤ search.count }
     requires room { taking.HasRoom held.now ids.now }
     ensures { taking.TakesOpen slots.now search.kind search.count held.now ids.now result }
 {
-    if let Some(id) = lowest_open(slots, search, held, ids, true) {
-        return id;
-    }
-    match lowest_open(slots, search, held, ids, false) {
+    match lowest_open(slots, search, held, ids) {
         Some(id) => id,
-        None => unreachable!(),
+        None => lowest_free(search, held, ids),
     }
 }
 

@@ -1,5 +1,5 @@
 //! Laws of what is said of frames: functions that do nothing, each with a law as its contract.
-ghost use Rattle.vx_merge.specs.inner.Joined.{FramesHaveShapes};
+ghost use Rattle.vx_merge.specs.inner.Geometry.{FramesHaveShapes};
 
 use vx_fit::frame_of_regions;
 

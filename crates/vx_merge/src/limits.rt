@@ -6,18 +6,10 @@ ghost use Rattle.vx_bits.specs.Codes.{AreBytes};
 ghost use Rattle.vx_merge.specs.inner.Making as making;
 ghost use Rattle.vx_merge.specs.inner.Making.{HasPayloads};
 
-use crate::output::Made;
+use crate::output::RoundUnits;
 use vx_bits::Refusal;
+use vx_bits::limits::{PICTURE_LIMIT, SOURCE_LIMIT, UNIT_LIMIT};
 use vx_bits::rules::{LONG_PICTURE, LONG_SOURCE, LONG_UNIT};
-
-/// The most bytes of a unit.
-const UNIT_LIMIT: u64 = 1 << 23;
-
-/// The most bytes of a picture header and its slices.
-const PICTURE_LIMIT: u64 = 1 << 25;
-
-/// The most bytes of a stream.
-const STREAM_LIMIT: u64 = 1 << 40;
 
 /// How many bytes a start code has.
 const START_CODE: u64 = 4;
@@ -28,7 +20,7 @@ const START_CODE: u64 = 4;
 fn is_long(front: &[u8], rest: &[u8]) -> bool
     ensures { result ≡ making.is_long (front.now ++ rest.now) }
 {
-    (front.len() + rest.len()) as u64 > UNIT_LIMIT
+    front.len() + rest.len() > UNIT_LIMIT
 }
 
 /// Whether one of these units is too long.
@@ -54,12 +46,12 @@ fn is_some_long(unit: Option<&[u8]>) -> bool
 }
 
 /// Whether the unit of a slice is too long.
-fn has_long_slice(made: &Made<'_>) -> bool
-    requires { HasPayloads made.now }
-    ensures { result ≡ list_any making.is_long (making.slice_units made.now) }
+fn has_long_slice(units: &RoundUnits<'_>) -> bool
+    requires { HasPayloads units.now }
+    ensures { result ≡ list_any making.is_long (making.slice_units units.now) }
 {
-    for i in 0..made.fronts.len() {
-        let slice = made.slice(i);
+    for i in 0..units.fronts.len() {
+        let slice = units.slice(i);
         if is_long(slice.front, slice.payload) {
             return true;
         }
@@ -68,20 +60,20 @@ fn has_long_slice(made: &Made<'_>) -> bool
 }
 
 /// Whether a unit is too long.
-fn has_long_unit(made: &Made<'_>) -> bool
-    requires { HasPayloads made.now }
-    ensures { result ≡ list_any making.is_long (making.units_made made.now) }
+fn has_long_unit(units: &RoundUnits<'_>) -> bool
+    requires { HasPayloads units.now }
+    ensures { result ≡ list_any making.is_long (making.units_made units.now) }
 {
-    if has_long(made.sets.as_slice()) {
+    if has_long(units.sets.as_slice()) {
         return true;
     }
-    if is_some_long(made.sei_unit()) {
+    if is_some_long(units.sei_unit()) {
         return true;
     }
-    if is_long(made.header.as_slice(), &[]) {
+    if is_long(units.header.as_slice(), &[]) {
         return true;
     }
-    has_long_slice(made)
+    has_long_slice(units)
 }
 
 // ---- bytes: counts stay at the highest number of 64 bits
@@ -139,54 +131,54 @@ fn with_slice(total: u64, each: u64, front: &[u8], payload: &[u8]) -> u64
 }
 
 /// With those of the slices, and so many more for each.
-fn with_slices(total: u64, each: u64, made: &Made<'_>) -> u64
-    requires { HasPayloads made.now }
-    ensures count { result ≡ making.capped (total + making.size_of each (making.slice_units made.now)) }
-    ensures bytes { AllByRecursion AreBytes (making.slice_units made.now) }
+fn with_slices(total: u64, each: u64, units: &RoundUnits<'_>) -> u64
+    requires { HasPayloads units.now }
+    ensures count { result ≡ making.capped (total + making.size_of each (making.slice_units units.now)) }
+    ensures bytes { AllByRecursion AreBytes (making.slice_units units.now) }
 {
     let mut sum = total;
-    for i in 0..made.fronts.len() {
-        let slice = made.slice(i);
+    for i in 0..units.fronts.len() {
+        let slice = units.slice(i);
         sum = with_slice(sum, each, slice.front, slice.payload);
     }
     sum
 }
 
-/// A count of bytes with all that was made of a round.
-fn with_made(bytes: u64, made: &Made<'_>) -> u64
-    requires { HasPayloads made.now }
-    ensures count { result ≡ making.capped (bytes + making.size_of 4 (making.units_made made.now)) }
-    ensures bytes { AllByRecursion AreBytes (making.units_made made.now) }
+/// A count of bytes with all that is written of a round.
+fn with_round(bytes: u64, units: &RoundUnits<'_>) -> u64
+    requires { HasPayloads units.now }
+    ensures count { result ≡ making.capped (bytes + making.size_of 4 (making.units_made units.now)) }
+    ensures bytes { AllByRecursion AreBytes (making.units_made units.now) }
 {
-    let end = with_end(bytes, made.after_eos);
-    let sets = with_units(end, made.sets.as_slice());
-    let sei = with_some(sets, made.sei_unit());
-    let header = with_unit(sei, made.header.as_slice());
-    with_slices(header, START_CODE, made)
+    let end = with_end(bytes, units.after_eos);
+    let sets = with_units(end, units.sets.as_slice());
+    let sei = with_some(sets, units.sei_unit());
+    let header = with_unit(sei, units.header.as_slice());
+    with_slices(header, START_CODE, units)
 }
 
 // ---- limits
 
-/// How many bytes are written in all, behind so many, where what was made of a round keeps the limits.
+/// How many bytes are written in all, behind so many, where what is written of a round keeps the limits.
 ///
 /// # Errors
 ///
 /// The first limit that it doesn't.
-pub(crate) fn bytes_within(made: &Made<'_>, bytes: u64) -> Result<u64, Refusal>
-    requires { HasPayloads made.now }
-    ensures total { IfOk result (λ total. total ≡ bytes + making.size_of 4 (making.units_made made.now)) }
-    ensures within { OnOk result (making.AreLimits made.now bytes None) }
-    ensures broken { IfErr result (λ r. making.AreLimits made.now bytes (Some r)) }
-    ensures bytes { AllByRecursion AreBytes (making.units_made made.now) }
+pub(crate) fn bytes_within(units: &RoundUnits<'_>, bytes: u64) -> Result<u64, Refusal>
+    requires { HasPayloads units.now }
+    ensures total { IfOk result (λ total. total ≡ bytes + making.size_of 4 (making.units_made units.now)) }
+    ensures within { OnOk result (making.AreLimits units.now bytes None) }
+    ensures broken { IfErr result (λ r. making.AreLimits units.now bytes (Some r)) }
+    ensures bytes { AllByRecursion AreBytes (making.units_made units.now) }
 {
-    let total = with_made(bytes, made);
-    if has_long_unit(made) {
+    let total = with_round(bytes, units);
+    if has_long_unit(units) {
         return Err(Refusal::Limit { code: LONG_UNIT });
     }
-    if with_slices(made.header.len() as u64, 0, made) > PICTURE_LIMIT {
+    if with_slices(units.header.len() as u64, 0, units) > PICTURE_LIMIT as u64 {
         return Err(Refusal::Limit { code: LONG_PICTURE });
     }
-    if total > STREAM_LIMIT {
+    if total > SOURCE_LIMIT {
         return Err(Refusal::Limit { code: LONG_SOURCE });
     }
     Ok(total)

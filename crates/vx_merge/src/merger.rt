@@ -4,13 +4,14 @@ ghost use Rattle.vx_pic.specs.Written.{Plan};
 ghost use Rattle.vx_merge.specs.Joins as words;
 ghost use Rattle.vx_merge.specs.Joins.{WritesJoined};
 ghost use Rattle.vx_merge.specs.Merging.{AreCorners, ChecksRound, Stands, WritesOneRound};
+ghost use Rattle.vx_merge.specs.inner.Counting.{WritesWhere};
 ghost use Rattle.vx_merge.specs.inner.Progress.{IsProgress, merging_of};
 
 use crate::corner::Corner;
 use crate::joins::join_start;
-use crate::output::write_made;
+use crate::output::write_units;
 use crate::progress::Progress;
-use crate::round::counted;
+use crate::round::round_units;
 use std::alloc::{AllocError, Global};
 use std::marker::Model;
 use vx_io::Sink;
@@ -71,7 +72,7 @@ fn check_lent<L: Lender>(
         → ChecksRound (map L.lent lenders.now) done (merging_of corners.now level progress.new) result }
 {
     let round = lent(alloc, lenders)?;
-    let _made = counted(alloc, corners, level, progress, round.as_slice())?;
+    let _units = round_units(alloc, corners, level, progress, round.as_slice())?;
     Ok(())
 }
 
@@ -92,18 +93,42 @@ fn write_round<K: Sink>(
         → WritesOneRound round.now done (merging_of corners.now level progress.new)
         (K.bytes_taken out.old) (K.bytes_taken out.new) (K.write_faults out.old) (K.write_faults out.new) result }
 {
-    let made = counted(alloc, corners, level, progress, round)?;
-    write_made(out, &made)?;
+    let units = round_units(alloc, corners, level, progress, round)?;
+    write_units(out, &units)?;
     Ok(())
 }
 
-/// Writes a round of lenders.
+/// Writes a round of pictures that is joined behind those before it.
+fn write_joined<K: Sink>(
+    alloc: Global,
+    corners: &[Corner],
+    level: Option<u8>,
+    progress: &mut Progress,
+    round: &[Picture<'_>],
+    out: &mut K,
+) -> Result<(), WriteError>
+    requires corners { AreCorners corners.now }
+    requires same { length corners.now ≡ length round.now }
+    requires progress { IsProgress corners.now level progress.old }
+    ensures progress { OnOk result (IsProgress corners.now level progress.new) }
+    ensures answer { (done : List Plan) → Stands (merging_of corners.now level progress.old) done
+        → WritesJoined round.now done (merging_of corners.now level progress.new)
+        (K.bytes_taken out.old) (K.bytes_taken out.new) (K.write_faults out.old) (K.write_faults out.new) result }
+{
+    if let Some(refusal) = join_start(round) {
+        return Err(WriteError::Refused(refusal));
+    }
+    write_round(alloc, corners, level, progress, round, out)
+}
+
+/// Writes a round of lenders, joined behind those before it or not.
 fn write_lent<L: Lender, K: Sink>(
     alloc: Global,
     corners: &[Corner],
     level: Option<u8>,
     progress: &mut Progress,
     lenders: &[L],
+    joins: bool,
     out: &mut K,
 ) -> Result<(), WriteError>
     requires corners { AreCorners corners.now }
@@ -112,35 +137,14 @@ fn write_lent<L: Lender, K: Sink>(
     requires progress { IsProgress corners.now level progress.old }
     ensures progress { OnOk result (IsProgress corners.now level progress.new) }
     ensures answer { (done : List Plan) → Stands (merging_of corners.now level progress.old) done
-        → WritesOneRound (map L.lent lenders.now) done (merging_of corners.now level progress.new)
+        → WritesWhere joins (map L.lent lenders.now) done (merging_of corners.now level progress.new)
         (K.bytes_taken out.old) (K.bytes_taken out.new) (K.write_faults out.old) (K.write_faults out.new) result }
 {
-    let round = lent(alloc, lenders)?;
-    write_round(alloc, corners, level, progress, round.as_slice(), out)
-}
-
-/// Writes a round of lenders that is joined behind those before it.
-fn write_joined<L: Lender, K: Sink>(
-    alloc: Global,
-    corners: &[Corner],
-    level: Option<u8>,
-    progress: &mut Progress,
-    lenders: &[L],
-    out: &mut K,
-) -> Result<(), WriteError>
-    requires corners { AreCorners corners.now }
-    requires count { length lenders.now ≡ length corners.now }
-    requires holds { All L.holds lenders.now }
-    requires progress { IsProgress corners.now level progress.old }
-    ensures progress { OnOk result (IsProgress corners.now level progress.new) }
-    ensures answer { (done : List Plan) → Stands (merging_of corners.now level progress.old) done
-        → WritesJoined (map words.after_end_of_sequence (map L.lent lenders.now)) done (merging_of corners.now level progress.new)
-        (K.bytes_taken out.old) (K.bytes_taken out.new) (K.write_faults out.old) (K.write_faults out.new) result }
-{
-    let round = joined(alloc, lenders)?;
-    if let Some(refusal) = join_start(round.as_slice()) {
-        return Err(WriteError::Refused(refusal));
+    if joins {
+        let round = joined(alloc, lenders)?;
+        return write_joined(alloc, corners, level, progress, round.as_slice(), out);
     }
+    let round = lent(alloc, lenders)?;
     write_round(alloc, corners, level, progress, round.as_slice(), out)
 }
 
@@ -153,6 +157,7 @@ impl Merger {
     ghost use Rattle.vx_merge.specs.Joins as words;
     ghost use Rattle.vx_merge.specs.Joins.{WritesJoined};
     ghost use Rattle.vx_merge.specs.Merging.{AreCorners, ChecksRound, SameTask, Stands, WritesOneRound};
+    ghost use Rattle.vx_merge.specs.inner.Counting.{WritesWhere};
 
     /// A merger of regions with these upper left corners, in luma samples, with a level of its own or the sources' highest.
     pub fn new(alloc: Global, corners: &[Corner], level: Option<u8>) -> Result<Merger, AllocError>
@@ -167,12 +172,41 @@ impl Merger {
             corners: own,
             level,
             progress: Progress {
-                settled: None,
+                frame: None,
                 slots: Slots::new(alloc),
                 bytes: 0,
             },
             first: None,
         })
+    }
+
+    /// Writes what a round is put together as, joined behind the rounds before it or not.
+    fn write<L: Lender, K: Sink>(
+        &mut self,
+        lenders: &[L],
+        joins: bool,
+        out: &mut K,
+    ) -> Result<(), WriteError>
+        requires count { length lenders.now ≡ length self.old.corners }
+        requires holds { All L.holds lenders.now }
+        ensures answer { (done : List Plan) → Stands self.old done
+            → WritesWhere joins (map L.lent lenders.now) done self.new (K.bytes_taken out.old) (K.bytes_taken out.new) (K.write_faults out.old) (K.write_faults out.new) result }
+        ensures task { SameTask self.old self.new }
+        ensures first { IfErr result (λ e. self.new.first ≡ Some (faults.first_of e)) }
+        ensures stopped { (f : First) → self.old.first ≡ Some f → (result ≡ Err (Stopped f)) × (self.new ≡ self.old) × (out.new ≡ out.old) }
+    {
+        if let Some(first) = self.first {
+            return Err(WriteError::Stopped(first));
+        }
+        let (alloc, level) = (self.alloc, self.level);
+        let progress = &mut self.progress;
+        match write_lent(alloc, &self.corners, level, progress, lenders, joins, out) {
+            Ok(()) => Ok(()),
+            Err(failure) => {
+                self.first = Some(first_of(failure));
+                Err(failure)
+            }
+        }
     }
 
     /// Whether a round can be put together and written, behind the rounds before it: as many lenders as corners, each holding its picture.
@@ -224,18 +258,7 @@ impl Merger {
         ensures first { IfErr result (λ e. self.new.first ≡ Some (faults.first_of e)) }
         ensures stopped { (f : First) → self.old.first ≡ Some f → (result ≡ Err (Stopped f)) × (self.new ≡ self.old) × (out.new ≡ out.old) }
     {
-        if let Some(first) = self.first {
-            return Err(WriteError::Stopped(first));
-        }
-        let (alloc, level) = (self.alloc, self.level);
-        let progress = &mut self.progress;
-        match write_lent(alloc, &self.corners, level, progress, lenders, out) {
-            Ok(()) => Ok(()),
-            Err(failure) => {
-                self.first = Some(first_of(failure));
-                Err(failure)
-            }
-        }
+        self.write(lenders, false, out)
     }
 
     /// Writes what a round is put together as that is joined behind the rounds before it: each of its pictures behind an end of sequence.
@@ -257,17 +280,6 @@ impl Merger {
         ensures first { IfErr result (λ e. self.new.first ≡ Some (faults.first_of e)) }
         ensures stopped { (f : First) → self.old.first ≡ Some f → (result ≡ Err (Stopped f)) × (self.new ≡ self.old) × (out.new ≡ out.old) }
     {
-        if let Some(first) = self.first {
-            return Err(WriteError::Stopped(first));
-        }
-        let (alloc, level) = (self.alloc, self.level);
-        let progress = &mut self.progress;
-        match write_joined(alloc, &self.corners, level, progress, lenders, out) {
-            Ok(()) => Ok(()),
-            Err(failure) => {
-                self.first = Some(first_of(failure));
-                Err(failure)
-            }
-        }
+        self.write(lenders, true, out)
     }
 }

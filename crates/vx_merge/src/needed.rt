@@ -15,14 +15,14 @@ ghost use Rattle.vx_merge.specs.Slots.{TakeSlots, alf_slots, lmcs_slots, pps_slo
 ghost use Rattle.vx_merge.specs.inner.Gathered.{AreGathered, HasNone, IsLowestWith};
 ghost use Rattle.vx_merge.specs.inner.Ready.{AreNeeded};
 ghost use Rattle.vx_merge.specs.declared.corner.Corner.{Corner};
-ghost use Rattle.vx_merge.specs.inner.Settled.{HasPps, IsSomeUsed, IsUsedFor};
+ghost use Rattle.vx_merge.specs.inner.Frames.{HasPps, IsSomeUsed, IsUsedFor};
 ghost use Rattle.vx_merge.specs.inner.Sending.{AreNamed, CanBeSent, HasEnds, HaveEnds};
 ghost use Rattle.vx_merge.specs.inner.Taking.{IsEmptyPps, IsHeldAs};
 
 use crate::bodies::RoundBodies;
+use crate::frame::{Frame, pps_under};
 use crate::headers::{is_chroma_scaled, lmcs_body, scaling_body};
 use crate::ids::{Search, take_ids};
-use crate::settled::{Settled, pps_under};
 use std::alloc::{AllocError, Global};
 use vx_aps::{ALF, LMCS, SCALING};
 use vx_bits::BodyList;
@@ -260,11 +260,11 @@ fn empty_pps_id(slots: &Slots) -> Option<u8>
 
 /// The id that a PPS takes.
 pub(crate) fn taken_pps_id(slots: &Slots, temporal_id: u8, pps: &Pps) -> u8
+    requires { ArePpsItems pps.now }
     ensures low { result < pps_slots }
     ensures taken { (sent : List SetUnit) → AreLastOf sent slots.now
         → TakeSlots pps_slots 1 temporal_id sent (λ k id. a_pps (pps_with_id id pps.now)) (result ∷ []) }
 {
-    let _items = pps.fields();
     match held_pps_id(slots, temporal_id, pps) {
         Some(id) => id,
         None => empty_pps_id(slots).unwrap_or(0),
@@ -278,18 +278,18 @@ pub(crate) fn needed<'s, 'a>(
     alloc: Global,
     round: &[Picture<'a>],
     bodies: RoundBodies<'a>,
-    settled: &'s Settled,
+    frame: &'s Frame,
     pps_id: u8,
     slots: &Slots,
 ) -> Result<RoundSets<'s, 'a>, AllocError>
     requires bodies { AreGathered round.now bodies }
-    requires settled { IsSomeUsed round.now settled.now }
-    requires pps { HasPps round.now pps_id settled.now }
+    requires frame { IsSomeUsed round.now frame.now }
+    requires pps { HasPps round.now pps_id frame.now }
     requires low { pps_id < pps_slots }
     requires taken { (sent : List SetUnit) → AreLastOf sent slots.now
-        → TakeSlots pps_slots 1 (picture_at round.now 0).kind.temporal_id sent (λ k id. a_pps (pps_with_id id settled.now.plain)) (pps_id ∷ []) }
-    ensures needed { (corners : List Corner) (level : Option ℕ) (sent : List SetUnit) → IsUsedFor corners level round.now settled.now → AreLastOf sent slots.now
-        → IfOk result (AreNeeded corners level round.now settled.now.frame.numbers sent) }
+        → TakeSlots pps_slots 1 (picture_at round.now 0).kind.temporal_id sent (λ k id. a_pps (pps_with_id id frame.now.plain)) (pps_id ∷ []) }
+    ensures needed { (corners : List Corner) (level : Option ℕ) (sent : List SetUnit) → IsUsedFor corners level round.now frame.now → AreLastOf sent slots.now
+        → IfOk result (AreNeeded corners level round.now frame.now.geometry.numbers sent) }
     ensures can { IfOk result CanBeSent }
 {
     bodies_end(round, &bodies);
@@ -300,8 +300,8 @@ pub(crate) fn needed<'s, 'a>(
     let scales_chroma = scales_chroma(round, bodies.lmcs);
     let scaling = named_scaling(alloc, slots, temporal_id, round, bodies.scaling)?;
     Ok(RoundSets {
-        sps: &settled.sps,
-        pps: pps_under(settled, pps_id),
+        sps: &frame.sps,
+        pps: pps_under(frame, pps_id),
         pps_id,
         alf,
         lmcs,

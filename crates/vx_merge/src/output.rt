@@ -1,4 +1,4 @@
-//! What is made of a round, and writing it.
+//! What is written of a round, and writing it.
 ghost use Rattle.std.specs.Prelude.{◌≡◌, ◌<◌, ◌∷◌, [], ◌++◌, length, option_copied, option_map, slice_get, Some};
 ghost use Rattle.vx_write.specs.Writing.{Takes};
 ghost use Rattle.vx_merge.specs.inner.Making as making;
@@ -9,9 +9,9 @@ use vx_bits::BodyList;
 use vx_io::{Sink, SinkFailed};
 use vx_write::{write_all_of, write_end, write_one, write_some};
 
-/// What is made of a round before any of it is written: all that is written of it.
+/// The units of a round: all that is written of it, made before any of it is.
 #[derive(Drop)]
-pub(crate) struct Made<'a> {
+pub(crate) struct RoundUnits<'a> {
     /// Whether an end of sequence comes first.
     pub(crate) after_eos: bool,
     /// The units of the sets that are sent.
@@ -35,7 +35,7 @@ pub(crate) struct SliceUnit<'a> {
     pub(crate) payload: &'a [u8],
 }
 
-impl<'a> Made<'a> {
+impl<'a> RoundUnits<'a> {
     /// The SEI unit.
     pub(crate) fn sei_unit(&self) -> Option<&[u8]>
         ensures { option_copied result ≡ option_map (λ unit. unit.items) self.now.sei }
@@ -65,24 +65,24 @@ fn write_slice<K: Sink>(out: &mut K, slice: SliceUnit<'_>) -> Result<(), SinkFai
 }
 
 /// Writes the slices.
-fn write_slices<K: Sink>(out: &mut K, made: &Made<'_>) -> Result<(), SinkFailed>
-    requires { HasPayloads made.now }
-    ensures { Takes (K.bytes_taken out.old) (K.bytes_taken out.new) (K.write_faults out.old) (K.write_faults out.new) (making.slice_units made.now) result }
+fn write_slices<K: Sink>(out: &mut K, units: &RoundUnits<'_>) -> Result<(), SinkFailed>
+    requires { HasPayloads units.now }
+    ensures { Takes (K.bytes_taken out.old) (K.bytes_taken out.new) (K.write_faults out.old) (K.write_faults out.new) (making.slice_units units.now) result }
 {
-    for i in 0..made.fronts.len() {
-        write_slice(out, made.slice(i))?;
+    for i in 0..units.fronts.len() {
+        write_slice(out, units.slice(i))?;
     }
     Ok(())
 }
 
-/// Writes all that was made of a round. It takes no memory.
-pub(crate) fn write_made<K: Sink>(out: &mut K, made: &Made<'_>) -> Result<(), SinkFailed>
-    requires { HasPayloads made.now }
-    ensures { Takes (K.bytes_taken out.old) (K.bytes_taken out.new) (K.write_faults out.old) (K.write_faults out.new) (making.units_made made.now) result }
+/// Writes the units of a round. It takes no memory.
+pub(crate) fn write_units<K: Sink>(out: &mut K, units: &RoundUnits<'_>) -> Result<(), SinkFailed>
+    requires { HasPayloads units.now }
+    ensures { Takes (K.bytes_taken out.old) (K.bytes_taken out.new) (K.write_faults out.old) (K.write_faults out.new) (making.units_made units.now) result }
 {
-    write_end(out, made.after_eos)?;
-    write_all_of(out, made.sets.as_slice())?;
-    write_some(out, made.sei_unit())?;
-    write_one(out, made.header.as_slice())?;
-    write_slices(out, made)
+    write_end(out, units.after_eos)?;
+    write_all_of(out, units.sets.as_slice())?;
+    write_some(out, units.sei_unit())?;
+    write_one(out, units.header.as_slice())?;
+    write_slices(out, units)
 }

@@ -1,5 +1,5 @@
 //! A round that is put together as one picture, and written.
-ghost use Rattle.std.specs.Prelude.{◌≡◌, ℕ, ◌<◌, ◌∷◌, [], ◌++◌, List, Option, None, length, map, flat_map, option_map, IfOk, IfSome, OnOk};
+ghost use Rattle.std.specs.Prelude.{◌≡◌, ℕ, ◌<◌, ◌≤◌, ◌∷◌, [], ◌++◌, List, Option, None, length, map, flat_map, option_map, IfOk, IfSome, OnOk};
 ghost use Rattle.vx_pic.specs.Resident.{kept_for as sets_kept_for};
 ghost use Rattle.vx_pic.specs.Written.{Plan, SetUnit, a_pps};
 ghost use Rattle.vx_write.specs.Slots.{AreLastOf, pps_with_id};
@@ -7,25 +7,26 @@ ghost use Rattle.vx_write.specs.Units.{IsSeiUnit};
 ghost use Rattle.vx_merge.specs.declared.corner.Corner.{Corner};
 ghost use Rattle.vx_merge.specs.Merging.{AreCorners, Stands};
 ghost use Rattle.vx_merge.specs.Rounds.{picture_at};
+ghost use Rattle.vx_merge.specs.Rules.{rules_of, rules_of_pictures, rules_of_slices};
 ghost use Rattle.vx_merge.specs.Slots.{TakeSlots, pps_slots};
-ghost use Rattle.vx_merge.specs.inner.Found.{HasHistory};
+ghost use Rattle.vx_merge.specs.inner.Found.{HasHistory, Tries};
 ghost use Rattle.vx_merge.specs.inner.Gathered.{AreGathered};
-ghost use Rattle.vx_merge.specs.inner.Making.{AreHeaders, HasPayloads, IsMade, payload_of, payloads_in};
-ghost use Rattle.vx_merge.specs.inner.Counting.{Counts};
+ghost use Rattle.vx_merge.specs.inner.Making.{AreHeaders, HasPayloads, AreRoundUnits, payload_of, payloads_in};
+ghost use Rattle.vx_merge.specs.inner.Counting.{AreUnitsOf, ChecksRules, MakesRound};
 ghost use Rattle.vx_merge.specs.inner.Progress.{IsProgress, merging_of};
 ghost use Rattle.vx_merge.specs.inner.Ready.{IsReadyAt};
-ghost use Rattle.vx_merge.specs.inner.Settled.{HasPps, IsKept, IsSomeUsed, IsUsedFor, KeepServing, ServesAs};
+ghost use Rattle.vx_merge.specs.inner.Frames.{HasPps, IsFrameOf, IsKeptFrame, IsSomeUsed, IsUsedFor, KnownWhereKept, ServesAs, SomePassed};
 
 use crate::bodies::{RoundBodies, round_bodies};
 use crate::corner::Corner;
+use crate::frame::{Frame, RoundFrame, have_pps, round_frame, whole_frame};
 use crate::fronts::slice_fronts;
 use crate::limits::bytes_within;
 use crate::needed::{RoundSets, needed, taken_pps_id};
-use crate::output::Made;
+use crate::output::RoundUnits;
 use crate::picture_header::{header_unit, picture_header};
 use crate::progress::Progress;
 use crate::send::send_needed;
-use crate::settled::{Settled, have_pps, round_layouts, settle};
 use crate::verdict::verdict;
 use std::alloc::{AllocError, Global};
 use vx_bits::BodyList;
@@ -114,122 +115,170 @@ fn header_units(
 
 // ---- all of it
 
-/// Makes all that is written of a round that breaks no rule, with its PPS under the id that it takes.
-fn make<'a>(
+/// All that is written of a round that breaks no rule, with its PPS under the id that it takes.
+fn units_under<'a>(
     alloc: Global,
-    settled: &Settled,
+    frame: &Frame,
     pps_id: u8,
     slots: &mut Slots,
     round: &[Picture<'a>],
     bodies: RoundBodies<'a>,
-) -> Result<Made<'a>, AllocError>
+) -> Result<RoundUnits<'a>, AllocError>
     requires bodies { AreGathered round.now bodies }
-    requires settled { IsSomeUsed round.now settled.now }
-    requires pps { HasPps round.now pps_id settled.now }
+    requires frame { IsSomeUsed round.now frame.now }
+    requires pps { HasPps round.now pps_id frame.now }
     requires low { pps_id < pps_slots }
     requires taken { (sent : List SetUnit) → AreLastOf sent slots.old
-        → TakeSlots pps_slots 1 (picture_at round.now 0).kind.temporal_id sent (λ k id. a_pps (pps_with_id id settled.now.plain)) (pps_id ∷ []) }
+        → TakeSlots pps_slots 1 (picture_at round.now 0).kind.temporal_id sent (λ k id. a_pps (pps_with_id id frame.now.plain)) (pps_id ∷ []) }
     requires slots { HasHistory slots.old }
     ensures payloads { IfOk result HasPayloads }
-    ensures made { (corners : List Corner) (level : Option ℕ) (history : List SetUnit) → IsUsedFor corners level round.now settled.now
+    ensures units { (corners : List Corner) (level : Option ℕ) (history : List SetUnit) → IsUsedFor corners level round.now frame.now
         → AreLastOf (sets_kept_for (picture_at round.now 0).kind.nal_type history) slots.old
-        → IfOk result (λ made. IsMade corners level round.now history made slots.new) }
+        → IfOk result (λ units. AreRoundUnits corners level round.now history units slots.new) }
 {
     let kind = kind_of(round);
-    let needed = needed(alloc, round, bodies, settled, pps_id, slots)?;
-    let units = header_units(alloc, round, &needed, &settled.layout)?;
+    let needed = needed(alloc, round, bodies, frame, pps_id, slots)?;
+    let headers = header_units(alloc, round, &needed, &frame.layout)?;
     let sets = send_needed(alloc, slots, &needed, kind.temporal_id)?;
     let sei = messages_unit(alloc, round)?;
     let payloads = payloads(alloc, round)?;
-    Ok(Made {
+    Ok(RoundUnits {
         after_eos: kind.after_eos,
         sets,
         sei,
-        header: units.header,
-        fronts: units.fronts,
+        header: headers.header,
+        fronts: headers.fronts,
         payloads,
     })
 }
 
-/// Makes all that is written of a round that breaks no rule, under what was made of its sets alone.
-fn make_next<'a>(
+/// All that is written of a round that breaks no rule, in its frame, behind the sets that were sent.
+fn units_behind<'a>(
     alloc: Global,
-    own: &mut Settled,
+    frame: &mut Frame,
     slots: &mut Slots,
     round: &[Picture<'a>],
     bodies: RoundBodies<'a>,
-) -> Result<Made<'a>, AllocError>
+) -> Result<RoundUnits<'a>, AllocError>
     requires bodies { AreGathered round.now bodies }
-    requires used { IsSomeUsed round.now own.old }
+    requires used { IsSomeUsed round.now frame.old }
     requires slots { HasHistory slots.old }
-    ensures settled { OnOk result (ServesAs round.now own.old own.new) }
+    ensures frame { OnOk result (ServesAs round.now frame.old frame.new) }
     ensures payloads { IfOk result HasPayloads }
-    ensures made { (corners : List Corner) (level : Option ℕ) (history : List SetUnit) → IsUsedFor corners level round.now own.old → AreLastOf history slots.old
-        → IfOk result (λ made. IsMade corners level round.now history made slots.new) }
+    ensures units { (corners : List Corner) (level : Option ℕ) (history : List SetUnit) → IsUsedFor corners level round.now frame.old → AreLastOf history slots.old
+        → IfOk result (λ units. AreRoundUnits corners level round.now history units slots.new) }
 {
     let kind = kind_of(round);
     forget_before(slots, kind.nal_type);
-    let pps_id = taken_pps_id(slots, kind.temporal_id, &own.plain);
-    have_pps(alloc, own, round, pps_id)?;
-    let made = make(alloc, own, pps_id, slots, round, bodies)?;
-    Ok(made)
+    let pps_id = taken_pps_id(slots, kind.temporal_id, &frame.plain);
+    have_pps(alloc, frame, round, pps_id)?;
+    let units = units_under(alloc, frame, pps_id, slots, round, bodies)?;
+    Ok(units)
 }
 
-/// The same under what is kept.
-fn make_kept<'a>(
+/// Whether the pictures of a round break no rule, where its sets break none.
+///
+/// # Errors
+///
+/// The first rule that they break, or want of memory.
+fn check_pictures(
     alloc: Global,
-    settled: &mut Option<Settled>,
-    slots: &mut Slots,
-    round: &[Picture<'a>],
-    bodies: RoundBodies<'a>,
-) -> Result<Made<'a>, AllocError>
-    requires bodies { AreGathered round.now bodies }
-    requires used { IsKept (IsSomeUsed round.now) settled.old }
-    requires slots { HasHistory slots.old }
-    ensures settled { OnOk result (KeepServing round.now settled.old settled.new) }
-    ensures payloads { IfOk result HasPayloads }
-    ensures made { (corners : List Corner) (level : Option ℕ) (history : List SetUnit) → IsKept (IsUsedFor corners level round.now) settled.old → AreLastOf history slots.old
-        → IfOk result (λ made. IsMade corners level round.now history made slots.new) }
+    round: &[Picture<'_>],
+    bodies: &RoundBodies<'_>,
+    frame: &RoundFrame,
+) -> Result<(), WriteError>
+    requires count { (0 < length round.now) × (length round.now ≤ 64) }
+    requires bodies { AreGathered round.now bodies.now }
+    requires frame { KnownWhereKept (SomePassed round.now) round.now frame.now }
+    ensures { ChecksRules (length round.now) (rules_of_pictures round.now ++ rules_of_slices round.now) result }
 {
-    match settled {
-        Some(own) => make_next(alloc, own, slots, round, bodies),
-        None => unreachable!(),
+    let found = verdict(alloc, round, bodies, frame)?;
+    match found {
+        Some(refusal) => Err(WriteError::Refused(refusal)),
+        None => Ok(()),
     }
 }
 
-/// Makes all that is written of a round, and counts it as written.
+/// The frame of a round that breaks no rule: the one that was kept, where it serves.
+///
+/// # Errors
+///
+/// The first rule that the round breaks, or want of memory.
+fn sound_frame(
+    alloc: Global,
+    corners: &[Corner],
+    level: Option<u8>,
+    kept: Option<Frame>,
+    round: &[Picture<'_>],
+    bodies: &RoundBodies<'_>,
+) -> Result<Frame, WriteError>
+    requires corners { AreCorners corners.now }
+    requires same { length corners.now ≡ length round.now }
+    requires kept { IfSome kept (IsKeptFrame corners.now level) }
+    requires bodies { AreGathered round.now bodies.now }
+    ensures { Tries (length round.now) (rules_of corners.now round.now) (IsFrameOf corners.now level round.now) result }
+{
+    let begun = round_frame(alloc, corners, kept, round)?;
+    check_pictures(alloc, round, bodies, &begun)?;
+    let frame = whole_frame(alloc, level, begun, round)?;
+    Ok(frame)
+}
+
+/// All that is written of a round that breaks no rule, behind the sets that were sent. Its frame is kept then.
+///
+/// # Errors
+///
+/// The first rule that the round breaks, or want of memory.
+fn sound_units<'a>(
+    alloc: Global,
+    corners: &[Corner],
+    level: Option<u8>,
+    kept: &mut Option<Frame>,
+    slots: &mut Slots,
+    round: &[Picture<'a>],
+) -> Result<RoundUnits<'a>, WriteError>
+    requires corners { AreCorners corners.now }
+    requires same { length corners.now ≡ length round.now }
+    requires kept { IfSome kept.old (IsKeptFrame corners.now level) }
+    requires slots { HasHistory slots.old }
+    ensures kept { OnOk result (IfSome kept.new (IsKeptFrame corners.now level)) }
+    ensures payloads { IfOk result HasPayloads }
+    ensures units { (history : List SetUnit) → AreLastOf history slots.old
+        → Tries (length round.now) (rules_of corners.now round.now) (AreUnitsOf corners.now level round.now history slots.new) result }
+{
+    let bodies = round_bodies(alloc, round)?;
+    let mut frame = sound_frame(alloc, corners, level, kept.take(), round, &bodies)?;
+    let units = units_behind(alloc, &mut frame, slots, round, bodies)?;
+    *kept = Some(frame);
+    Ok(units)
+}
+
+/// All that is written of a round, which counts as written then.
 ///
 /// # Errors
 ///
 /// The first rule that the round breaks, or else the first limit that what would be written of it passes, or want of memory.
-pub(crate) fn counted<'a>(
+pub(crate) fn round_units<'a>(
     alloc: Global,
     corners: &[Corner],
     level: Option<u8>,
     progress: &mut Progress,
     round: &[Picture<'a>],
-) -> Result<Made<'a>, WriteError>
+) -> Result<RoundUnits<'a>, WriteError>
     requires corners { AreCorners corners.now }
     requires same { length corners.now ≡ length round.now }
     requires progress { IsProgress corners.now level progress.old }
     ensures progress { OnOk result (IsProgress corners.now level progress.new) }
     ensures payloads { IfOk result HasPayloads }
     ensures answer { (done : List Plan) → Stands (merging_of corners.now level progress.old) done
-        → Counts round.now done (merging_of corners.now level progress.new) result }
+        → MakesRound round.now done (merging_of corners.now level progress.new) result }
 {
-    let layouts = round_layouts(alloc, &progress.settled, round)?;
-    let bodies = round_bodies(alloc, round)?;
-    let found = verdict(alloc, corners, round, &bodies, &layouts)?;
-    if let Some(refusal) = found {
-        return Err(WriteError::Refused(refusal));
-    }
-    let settled = &mut progress.settled;
-    settle(alloc, corners, level, layouts, settled, round)?;
-    let made = make_kept(alloc, settled, &mut progress.slots, round, bodies)?;
-    match bytes_within(&made, progress.bytes) {
+    let kept = &mut progress.frame;
+    let units = sound_units(alloc, corners, level, kept, &mut progress.slots, round)?;
+    match bytes_within(&units, progress.bytes) {
         Ok(total) => {
             progress.bytes = total;
-            Ok(made)
+            Ok(units)
         }
         Err(refusal) => Err(WriteError::Refused(refusal)),
     }

@@ -1,13 +1,31 @@
--- What is answered where all that is written of a round is made, and counts as written.
-use Rattle.std.specs.Prelude.{◌≡◌, List, ◌∷◌, Result, Ok, Err}
+-- What is answered where all that is written of a round is made, and counts as written, and where it is written.
+use Rattle.std.specs.Prelude.{◌≡◌, ℕ, Bool, true, false, List, ◌∷◌, map, Option, Result, Ok, Err}
 use Rattle.vx_pic.specs.Parts.{Parts}
-use Rattle.vx_pic.specs.Written.{Plan, units_of}
+use Rattle.vx_pic.specs.Written.{Plan, SetUnit, units_of}
+use Rattle.vx_write.specs.Slots.{Sent}
 use Rattle.vx_write.specs.declared.fault.WriteError.{WriteError}
-use Rattle.vx_merge.specs.declared.output.Made.{Made}
-use Rattle.vx_merge.specs.Merging.{ChecksRound, Merging, Passes, Stands}
-use Rattle.vx_merge.specs.inner.Making.{units_made}
+use Rattle.vx_merge.specs.declared.corner.Corner.{Corner}
+use Rattle.vx_merge.specs.declared.output.RoundUnits.{RoundUnits}
+use Rattle.vx_merge.specs.Joins.{WritesJoined, after_end_of_sequence}
+use Rattle.vx_merge.specs.Merging.{ChecksRound, Merging, Passes, Stands, WritesOneRound}
+use Rattle.vx_merge.specs.Verdict.{Rule}
+use Rattle.vx_merge.specs.inner.Found.{Tries}
+use Rattle.vx_merge.specs.inner.Making.{AreRoundUnits, units_made}
+
+-- the verdict by some rules, where none is answered by nothing
+abbrev pub ChecksRules : ℕ → List Rule → Result (Unit {0}) WriteError → Type 0
+ChecksRules n rules = Tries n rules (λ x. Unit {0})
+
+-- this is all that is written of a round behind sets that were sent, and these are the last sets then
+abbrev pub AreUnitsOf : List Corner → Option ℕ → List Parts → List SetUnit → List Sent → RoundUnits → Type 0
+AreUnitsOf corners level round history slots m = AreRoundUnits corners level round history m slots
 
 -- as of a check, with the units of what passes it
-abbrev pub Counts : List Parts → List Plan → Merging → Result Made WriteError → Type 0
-Counts round done new (Ok m) = (p : Plan) × Passes new.corners new.level round done p × Stands new (p ∷ done) × (units_of p ≡ units_made m)
-Counts round done new (Err e) = ChecksRound round done new (Err e)
+abbrev pub MakesRound : List Parts → List Plan → Merging → Result RoundUnits WriteError → Type 0
+MakesRound round done new (Ok m) = (p : Plan) × Passes new.corners new.level round done p × Stands new (p ∷ done) × (units_of p ≡ units_made m)
+MakesRound round done new (Err e) = ChecksRound round done new (Err e)
+
+-- as of a round that is joined, its pictures being marked so, or of any
+abbrev pub WritesWhere : (joins : Bool) → List Parts → List Plan → Merging → Option (List ℕ) → Option (List ℕ) → ℕ → ℕ → Result (Unit {0}) WriteError → Type 0
+WritesWhere true round = WritesJoined (map after_end_of_sequence round)
+WritesWhere false round = WritesOneRound round

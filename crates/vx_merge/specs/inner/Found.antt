@@ -1,15 +1,15 @@
 -- What the searches for broken rules answer.
-use Rattle.std.specs.Prelude.{◌≡◌, ℕ, ◌<◌, List, flat_map, slice_get, option_to_list, Option, Some, None}
+use Rattle.std.specs.Prelude.{◌≡◌, ℕ, ◌<◌, List, flat_map, slice_get, option_to_list, Option, Some, None, Result, Ok, Err}
 use Rattle.vx_bits.specs.declared.refusal.Refusal.{Refusal}
 use Rattle.vx_bits.specs.declared.refusal.Refusal.TheVariants.{Limit, Merge}
 use Rattle.vx_bits.specs.declared.rules.TheConstants as rules
 use Rattle.vx_fit.specs.declared.placed.FitFault.{FitFault}
 use Rattle.vx_fit.specs.declared.placed.FitFault.TheVariants.{TooLarge, Geometry, Order}
-use Rattle.vx_fit.specs.declared.lines.LineError.{LineError}
-use Rattle.vx_fit.specs.declared.lines.LineError.TheVariants.{Memory, Lines}
 use Rattle.vx_fit.specs.Lowest.{IsLowest}
 use Rattle.vx_pic.specs.Parts.{Parts}
 use Rattle.vx_pic.specs.Written.{SetUnit}
+use Rattle.vx_write.specs.declared.fault.WriteError.{WriteError}
+use Rattle.vx_write.specs.declared.fault.WriteError.TheVariants as errors
 use Rattle.vx_write.specs.Slots.{AreLastOf, Sent}
 use Rattle.vx_merge.specs.declared.told.Differing.{Differing}
 use Rattle.vx_merge.specs.Rounds.{picture_at}
@@ -18,6 +18,14 @@ use Rattle.vx_merge.specs.Verdict.{Rule, IsVerdict}
 -- the verdict by some rules
 pub record Finds (n : ℕ) (rules : List Rule) (answer : Option Refusal) : Type 0 where
   pub verdict : IsVerdict n rules answer
+
+-- what is answered where something is made as far as some rules let it: where none is broken, and this is so of it; or their verdict
+abbrev pub Tries : {A : Type 0} → ℕ → List Rule → (A → Type 0) → Result A WriteError → Type 0
+Tries n rules P (Ok x) = Finds n rules None × P x
+Tries n rules P (Err errors.Memory) = Unit {0}
+Tries n rules P (Err errors.SinkFailed) = ⊥
+Tries n rules P (Err (errors.Refused r)) = Finds n rules (Some r)
+Tries n rules P (Err (errors.Stopped first)) = ⊥
 
 -- the lowest source that breaks a rule, and the field in which it differs
 abbrev pub IsLowestField : ℕ → (ℕ → Type 0) → (ℕ → ℕ) → Option Differing → Type 0
@@ -54,11 +62,6 @@ fit_refusal (Order k) = Merge rules.REGION_ORDER k 0
 -- what one item of a list adds to what is gathered of all
 abbrev pub piece_at : {A B : Type 0} → (A → List B) → List A → ℕ → List B
 piece_at f xs i = flat_map f (option_to_list (slice_get xs i))
-
--- the region that an error names
-abbrev pub Names : LineError → Option ℕ → Type 0
-Names Memory lowest = ⊥
-Names (Lines k) lowest = lowest ≡ Some k
 
 -- these are the last sets of some that were sent
 abbrev pub HasHistory : List Sent → Type 0

@@ -4,7 +4,8 @@ use Rattle.std.specs.List.{AllByRecursion, AllZip}
 use Rattle.vx_bits.specs.declared.refusal.Refusal.{Refusal}
 use Rattle.vx_bits.specs.declared.rules.TheConstants as rules
 use Rattle.vx_layout.specs.declared.numbers.Numbers.{Numbers}
-use Rattle.vx_annexb.specs.ByteStream.{source_limit, unit_limit}
+use Rattle.vx_bits.specs.Limits.{unit_limit}
+use Rattle.vx_annexb.specs.ByteStream.{source_limit}
 use Rattle.vx_pic.specs.Parts.{Parts, SlicePart}
 use Rattle.vx_pic.specs.Readings.{Begun}
 use Rattle.vx_pic.specs.Resident.{history_of, kept_for}
@@ -13,7 +14,7 @@ use Rattle.vx_pic.specs.Written.{Plan, SetUnit, eos_units, planned_slices, units
 use Rattle.vx_write.specs.Slots.{AreLastOf, Sent}
 use Rattle.vx_merge.specs.declared.corner.Corner.{Corner}
 use Rattle.vx_merge.specs.declared.needed.RoundSets.{RoundSets}
-use Rattle.vx_merge.specs.declared.output.Made.{Made}
+use Rattle.vx_merge.specs.declared.output.RoundUnits.{RoundUnits}
 use Rattle.vx_merge.specs.Headers.{HasMergedHeader, IsFront, sourced}
 use Rattle.vx_merge.specs.Rounds.{picture_at}
 use Rattle.vx_merge.specs.Rules.{of_limit}
@@ -30,15 +31,15 @@ with_payloads [] payloads = []
 with_payloads (front ∷ fronts) [] = []
 with_payloads (front ∷ fronts) (payload ∷ payloads) = (front ++ payload) ∷ with_payloads fronts payloads
 
-abbrev pub slice_units : Made → List (List ℕ)
+abbrev pub slice_units : RoundUnits → List (List ℕ)
 slice_units m = with_payloads (map (λ u. u.items) m.fronts.items) (map (λ b. b.now) m.payloads)
 
 -- as many fronts as payloads
-abbrev pub HasPayloads : Made → Type 0
+abbrev pub HasPayloads : RoundUnits → Type 0
 HasPayloads m = length m.fronts.items ≡ length m.payloads
 
 -- all units
-abbrev pub units_made : Made → List (List ℕ)
+abbrev pub units_made : RoundUnits → List (List ℕ)
 units_made m =
     eos_units m.after_eos
     ++ (map (λ u. u.items) m.sets.items
@@ -74,12 +75,12 @@ abbrev pub capped : ℕ → ℕ
 capped n = min n (2 ^ 64 - 1)
 
 -- the limits of what was made behind so many bytes
-abbrev pub limits_on : Made → ℕ → List Rule
+abbrev pub limits_on : RoundUnits → ℕ → List Rule
 limits_on m bytes =
     limits_by (units_made m) (length m.header.items + size_of 0 (slice_units m)) (bytes + size_of 4 (units_made m))
 
 -- the verdict by them, on any number of sources
-abbrev pub AreLimits : Made → ℕ → Option Refusal → Type 0
+abbrev pub AreLimits : RoundUnits → ℕ → Option Refusal → Type 0
 AreLimits m bytes answer = (n : ℕ) → 0 < n → IsVerdict n (limits_on m bytes) answer
 
 -- ---- what is made
@@ -96,7 +97,7 @@ pub record AreHeaders (round : List Parts) (n : RoundSets) (frame : Numbers) (he
   pub slices : AllZip (λ x front. IsFront round (ids_in n) (picture_at round 0).kind.nal_type begun x.0 x.1 front) (sourced 0 round) fronts
 
 -- What is made of a round behind sets that were sent: a picture as it is to be written, and its units. These are the last sets then.
-pub record IsMade (corners : List Corner) (level : Option ℕ) (round : List Parts) (history : List SetUnit) (m : Made) (slots : List Sent) : Type 0 where
+pub record AreRoundUnits (corners : List Corner) (level : Option ℕ) (round : List Parts) (history : List SetUnit) (m : RoundUnits) (slots : List Sent) : Type 0 where
   pub plan : Plan
   pub is : (done : List Plan) → history_of done ≡ history → AllByRecursion AreBytes (units_made m) → IsMerged corners level round done plan
   pub units : units_of plan ≡ units_made m

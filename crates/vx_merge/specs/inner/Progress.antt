@@ -4,11 +4,11 @@ use Rattle.vx_merge.specs.declared.corner.Corner.{Corner}
 use Rattle.vx_merge.specs.declared.progress.Progress.{Progress}
 use Rattle.vx_merge.specs.Merging.{Merging}
 use Rattle.vx_merge.specs.inner.Found.{HasHistory}
-use Rattle.vx_merge.specs.inner.Settled.{IsSettled}
+use Rattle.vx_merge.specs.inner.Frames.{IsKeptFrame}
 
--- what was made of sets was made of a round with these corners, at this level, and the slots are the last of some sets
+-- the frame that is kept is one of these corners, at this level, and the slots are the last of some sets
 pub record IsProgress (corners : List Corner) (level : Option ℕ) (p : Progress) : Type 0 where
-  pub settled : IfSome p.settled (IsSettled corners level)
+  pub frame : IfSome p.frame (IsKeptFrame corners level)
   pub slots : HasHistory p.slots
 
 -- a merger that goes on with it

@@ -15,7 +15,7 @@ use Rattle.vx_merge.specs.Rules.{rules_of}
 use Rattle.vx_merge.specs.Shapes.{of_lowest, frame_pps_shape, frame_sps_shape}
 use Rattle.vx_merge.specs.Slots.{pps_slots}
 use Rattle.vx_merge.specs.Verdict.{IsVerdict}
-use Rattle.vx_merge.specs.inner.Joined.{HasShapes, MakeFrame}
+use Rattle.vx_merge.specs.inner.Geometry.{HasShapes, MakeFrame}
 
 -- the ids that the sets take
 abbrev pub ids_in : RoundSets → Ids

@@ -3,7 +3,7 @@ use Rattle.std.proofs.lemmas.Result.{IfOk-weaker}
 use Rattle.vx_pps.specs.Reshaped.{IsReshapedPps, IsShape}
 use Rattle.vx_merge.specs.Rounds.{picture_at}
 use Rattle.vx_merge.specs.Shapes.{frame_pps_shape}
-use Rattle.vx_merge.specs.inner.Joined.{OfFrame}
+use Rattle.vx_merge.specs.inner.Geometry.{OfGeometry}
 use Rattle.vx_merge.proofs.Reading.{picture_read}
 use Rattle.vx_merge.proofs.frame_sets.frame_pps.Goals as goal
 
@@ -24,7 +24,7 @@ returns c =
     let round = c.args.round.now in
     let frame = c.args.frame.now in
     IfOk-weaker c.reshape_pps.result (IsReshapedPps c.pps.result.now c.in_ok-shape.shape)
-    (λ pps. OfFrame round frame (λ corners. IsReshapedPps (picture_at round 0).pps (frame_pps_shape corners round frame.numbers c.args.id) pps))
+    (λ pps. OfGeometry round frame (λ corners. IsReshapedPps (picture_at round 0).pps (frame_pps_shape corners round frame.numbers c.args.id) pps))
     (λ pps made corners is.
     let pps_is : c.pps.result.now ≡ (picture_at round 0).pps = c.pps.ensures ∙ ap (λ q. q.pps) (picture_read round 0 c.index-round-0.result is.some c.index-round-0.is) in
     let shape_is : c.in_ok-shape.shape ≡ frame_pps_shape corners round frame.numbers c.args.id = c.in_ok-shape.ensures corners is in

@@ -5,7 +5,7 @@ use Rattle.vx_sps.specs.Reshaped.{IsReshapedSps, IsShape}
 use Rattle.vx_merge.specs.Regions.{ctb_of}
 use Rattle.vx_merge.specs.Rounds.{picture_at}
 use Rattle.vx_merge.specs.Shapes.{frame_sps_shape}
-use Rattle.vx_merge.specs.inner.Joined.{OfFrame}
+use Rattle.vx_merge.specs.inner.Geometry.{OfGeometry}
 use Rattle.vx_merge.proofs.Reading.{picture_read}
 use Rattle.vx_merge.proofs.frame_sets.frame_sps.Goals as goal
 
@@ -25,7 +25,7 @@ pub returns : goal.returns
 returns c =
     let round = c.args.round.now in
     IfOk-weaker c.reshape_sps.result (IsReshapedSps c.sps.result.now c.in_ok-shape.shape)
-    (λ sps. OfFrame round c.args.frame.now (λ corners. IsReshapedSps (picture_at round 0).sps (frame_sps_shape corners round c.args.level) sps))
+    (λ sps. OfGeometry round c.args.frame.now (λ corners. IsReshapedSps (picture_at round 0).sps (frame_sps_shape corners round c.args.level) sps))
     (λ sps made corners is.
     let sps_is : c.sps.result.now ≡ (picture_at round 0).sps = c.sps.ensures ∙ ap (λ q. q.sps) (picture_read round 0 c.index-round-0.result is.some c.index-round-0.is) in
     let shape_is : c.in_ok-shape.shape ≡ frame_sps_shape corners round c.args.level = c.in_ok-shape.ensures corners is in

@@ -1,6 +1,6 @@
 use Rattle.std.proofs.Common.{ap, sym, length-append}
 use Rattle.std.specs.Prelude.{nat_lt}
-use Rattle.vx_annexb.specs.ByteStream.{unit_limit}
+use Rattle.vx_bits.specs.Limits.{unit_limit}
 use Rattle.vx_merge.proofs.limits.is_long.Goals as goal
 
 pub returns : goal.returns

@@ -11,15 +11,15 @@ pub loop-i-preserved : goal.loop-i-preserved
 loop-i-preserved c =
     let sum = c.with_slice-sum.ensures.count
     ∙ (ap (λ n. capped (n + (c.args.each + length (c.slice-slice.result.front.now ++ c.slice-slice.result.payload.now)))) c.loop-i.invariant.0
-    ∙ capped_more c.args.total c.args.each c.loop-i.i (slice_units c.args.made.now) _ c.slice-slice.ensures) in
-    (sum, all_more AreBytes (slice_units c.args.made.now) c.loop-i.i _ c.slice-slice.ensures c.loop-i.invariant.1 c.with_slice-sum.ensures.bytes)
+    ∙ capped_more c.args.total c.args.each c.loop-i.i (slice_units c.args.units.now) _ c.slice-slice.ensures) in
+    (sum, all_more AreBytes (slice_units c.args.units.now) c.loop-i.i _ c.slice-slice.ensures c.loop-i.invariant.1 c.with_slice-sum.ensures.bytes)
 
 pub returns-clause-count : goal.returns-clause-count
 returns-clause-count c =
-    let past : length (slice_units c.args.made.now) ≤ c.loop-i.i = slices_past c.args.made.now c.loop-i.i c.requires (omega arith) in
-    c.loop-i.invariant.0 ∙ ap (λ us. capped (c.args.total + size_of c.args.each us)) (take_all c.loop-i.i (slice_units c.args.made.now) past)
+    let past : length (slice_units c.args.units.now) ≤ c.loop-i.i = slices_past c.args.units.now c.loop-i.i c.requires (omega arith) in
+    c.loop-i.invariant.0 ∙ ap (λ us. capped (c.args.total + size_of c.args.each us)) (take_all c.loop-i.i (slice_units c.args.units.now) past)
 
 pub returns-clause-bytes : goal.returns-clause-bytes
 returns-clause-bytes c =
-    let past : length (slice_units c.args.made.now) ≤ c.loop-i.i = slices_past c.args.made.now c.loop-i.i c.requires (omega arith) in
-    subst (AllByRecursion AreBytes) (take_all c.loop-i.i (slice_units c.args.made.now) past) c.loop-i.invariant.1
+    let past : length (slice_units c.args.units.now) ≤ c.loop-i.i = slices_past c.args.units.now c.loop-i.i c.requires (omega arith) in
+    subst (AllByRecursion AreBytes) (take_all c.loop-i.i (slice_units c.args.units.now) past) c.loop-i.invariant.1

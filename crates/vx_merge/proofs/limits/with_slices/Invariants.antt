@@ -5,4 +5,4 @@ use Rattle.vx_merge.specs.inner.Making.{capped, size_of, slice_units}
 use Rattle.vx_merge.proofs.limits.with_slices.Given as goal
 
 abbrev pub invariant-loop-i : goal.invariant-loop-i
-invariant-loop-i l = (l.sum ≡ capped (l.total + size_of l.each (take l.i (slice_units l.made)))) × AllByRecursion AreBytes (take l.i (slice_units l.made))
+invariant-loop-i l = (l.sum ≡ capped (l.total + size_of l.each (take l.i (slice_units l.units)))) × AllByRecursion AreBytes (take l.i (slice_units l.units))

@@ -9,14 +9,14 @@ use Rattle.vx_merge.proofs.output.write_slices.Goals as goal
 pub returns-in_err-write_slice : goal.returns-in_err-write_slice
 returns-in_err-write_slice g c =
     let p = err_from_is_err_and c.from_residual.result c.from_residual.ensures.1 in
-    rw p.1 (takes_stop _ _ _ _ _ _ _ _ _ p.0 p.0 (item_split (slice_units c.args.made.now) c.loop-i.i _ c.slice.ensures) c.loop-i.invariant c.in_err-write_slice.ensures)
+    rw p.1 (takes_stop _ _ _ _ _ _ _ _ _ p.0 p.0 (item_split (slice_units c.args.units.now) c.loop-i.i _ c.slice.ensures) c.loop-i.invariant c.in_err-write_slice.ensures)
 
 pub loop-i-preserved : goal.loop-i-preserved
 loop-i-preserved g c =
-    rw (next_item (slice_units c.args.made.now) c.loop-i.i _ c.slice.ensures)
+    rw (next_item (slice_units c.args.units.now) c.loop-i.i _ c.slice.ensures)
     (takes_then _ _ _ _ _ _ _ _ (Ok tt) c.loop-i.invariant c.in_ok-write_slice.ensures)
 
 pub returns : goal.returns
 returns g c =
-    let past : length (slice_units c.args.made.now) ≤ c.loop-i.i = slices_past c.args.made.now c.loop-i.i c.requires (omega arith) in
-    rw (← take_all c.loop-i.i (slice_units c.args.made.now) past) c.loop-i.invariant
+    let past : length (slice_units c.args.units.now) ≤ c.loop-i.i = slices_past c.args.units.now c.loop-i.i c.requires (omega arith) in
+    rw (← take_all c.loop-i.i (slice_units c.args.units.now) past) c.loop-i.invariant

@@ -7,4 +7,4 @@ use Rattle.vx_merge.proofs.output.write_slices.Given as goal
 abbrev pub invariant-loop-i : goal.invariant-loop-i
 invariant-loop-i g l =
     Takes (g.K.Sink.bytes_taken l.fn.out) (g.K.Sink.bytes_taken l.out) (g.K.Sink.write_faults l.fn.out) (g.K.Sink.write_faults l.out)
-    (take l.i (slice_units l.made)) (Ok tt)
+    (take l.i (slice_units l.units)) (Ok tt)
