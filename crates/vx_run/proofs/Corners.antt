@@ -1,11 +1,10 @@
 -- The corners that words name, and where a command stops.
-use Rattle.std.proofs.Common.{◌≡◌, ℕ, zero, suc, ◌+◌, ◌<◌, ◌≤◌, List, [], ◌∷◌, ◌++◌, ◌∙◌, Option, Some, None, Result, Ok, Err, length, map, take, slice_get, sym, ap, refl, arith, add-one}
+use Rattle.std.proofs.Common.{◌≡◌, ℕ, ◌<◌, ◌≤◌, List, [], ◌∷◌, Option, Some, None, Result, Ok, Err, length, map, refl, arith}
 use Rattle.std.specs.Prelude.{All, OnOk, IsSome, MatchOption, String, string_bytes}
-use Rattle.std.proofs.Math.Seq.{take_all}
 use Rattle.std.specs.List.{AllByRecursion}
 use Rattle.std.proofs.lemmas.List.{length-map}
 use Rattle.std.proofs.lemmas.List.Elements.{All-nil, All-cons}
-use Rattle.std.proofs.lemmas.Option.{same_Some, MatchOption-at_some}
+use Rattle.std.proofs.lemmas.Option.{MatchOption-at_some}
 use Rattle.vx_annexb.specs.ByteStream.{UnitPlace}
 use Rattle.vx_pic.specs.Readings.{Reading}
 use Rattle.vx_pic.specs.Rules.{Readers}
@@ -18,15 +17,15 @@ use Rattle.vx_write.specs.declared.fault.WriteFirst.{WriteFirst}
 use Rattle.vx_merge.specs.Merging.{IsCorner, AreCorners}
 use Rattle.vx_run.specs.declared.stop.Stop.{Stop}
 use Rattle.vx_run.specs.declared.stop.Stop.TheVariants.{NotUnderstood, Mismatched, Refused, ReadFault, WriteFault, NoMemory}
-use Rattle.vx_run.specs.declared.words.Placing.{Placing as Placed}
+use Rattle.vx_run.specs.declared.placings.Placing.{Placing as Placed}
 use Rattle.vx_run.specs.Conclusion.{Outcome, IsOfCommand}
 use Rattle.vx_run.specs.Grammar.{Placing, IsPlacing, texts}
 use Rattle.vx_run.specs.Rounds.{most_sources, too_many}
 use Rattle.vx_run.specs.Merge.{corner_of, corners_of}
 use Rattle.vx_run.specs.inner.Advancing.{AdvancesOf}
 use Rattle.vx_run.specs.inner.Stopping.{ComesOf, stop_of_feed, stop_of_write}
-use Rattle.vx_run.specs.inner.Placings.{placing_in, placed, Spells, IsPlacingWord}
-use Rattle.vx_run.proofs.Placings.{words_read, reads_one}
+use Rattle.vx_run.specs.inner.Placings.{placing_in, IsPlacingWord}
+use Rattle.vx_run.proofs.PlacingWords.{words_read}
 
 -- ---- corners
 
@@ -50,23 +49,6 @@ are_corners words all some few = record {
   few = omega (arith, many_corners words, few);
   each = placed_corners (map placing_in (texts words)) (words_read (texts words) all).1;
 }
-
--- what is made of one more placing,
-placed_suc : {A X : Type 0} (f : Placing → X) (words : List (String A)) (i : ℕ) (w : String A) (p : Placed) → slice_get words i ≡ Some w → Spells (string_bytes w) (placed p)
-    → map f (map placing_in (texts (take i words))) ++ f (placed p) ∷ [] ≡ map f (map placing_in (texts (take (suc i) words)))
-placed_suc f [] i w p at spells = absurd (cc)
-placed_suc {A = A} {X = X} f (x ∷ words) zero w p at spells =
-    let read : placing_in (string_bytes x) ≡ placed p = ap (λ (y : String A). placing_in (string_bytes y)) (same_Some x w at) ∙ reads_one (string_bytes w) (placed p) spells in
-    ap (λ (q : Placing). let l : List X = f q ∷ [] in l) (sym read)
-placed_suc {A = A} {X = X} f (x ∷ words) (suc i) w p at spells = ap (λ (l : List X). f (placing_in (string_bytes x)) ∷ l) (placed_suc f words i w p at spells)
-
-pub placed_more : {A X : Type 0} (f : Placing → X) (words : List (String A)) (i : ℕ) (w : String A) (p : Placed) → slice_get words i ≡ Some w → Spells (string_bytes w) (placed p)
-    → map f (map placing_in (texts (take i words))) ++ f (placed p) ∷ [] ≡ map f (map placing_in (texts (take (i + 1) words)))
-placed_more f words i w p at spells = rw add-one (placed_suc f words i w p at spells)
-
--- and of all of them
-pub placed_all : {A X : Type 0} (f : Placing → X) (words : List (String A)) (i : ℕ) → length words ≤ i → map f (map placing_in (texts (take i words))) ≡ map f (map placing_in (texts words))
-placed_all {A = A} f words i all = ap (λ (l : List (String A)). map f (map placing_in (texts l))) (take_all i words all)
 
 -- what an answer says
 pub placed_some : (r : Option Placed) (P : Type 0) (Q : Placed → Type 0) → MatchOption r (P → ⊥) Q → P → IsSome r

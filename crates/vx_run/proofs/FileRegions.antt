@@ -1,16 +1,13 @@
 -- The region of a file: as many as there are corners before the first file with its own.
 use Rattle.std.proofs.Common.{◌≡◌, ◌≢◌, ℕ, zero, suc, ◌+◌, ◌<◌, ◌≤◌, ◌==◌, List, [], ◌∷◌, ◌++◌, ◌∙◌, Option, Some, Bool, true, false, not, cond, length, map, get_or, slice_get, take, inl, inr, sym, ap, refl, subst, arith, add-one}
-use Rattle.std.specs.Prelude.{IfSome, String, option_map, string_bytes}
+use Rattle.std.specs.Prelude.{IfSome, option_map}
 use Rattle.std.proofs.lemmas.Bool.{and_parts, cases_lt, eq-eqb, eqb-true, ne_eqb}
 use Rattle.std.proofs.lemmas.List.{length-append}
 use Rattle.std.proofs.lemmas.List.Folds.{position_or_len_push}
 use Rattle.std.proofs.lemmas.List.Sums.{fails_before_first, passes_at_first, position_or_len_is, prefix_len-le-length}
-use Rattle.std.proofs.lemmas.Option.{get_or_from_slice_get, slice_get-get_or, slice_get-map, slice_get_read, slice_get_within}
+use Rattle.std.proofs.lemmas.Option.{get_or_from_slice_get, slice_get-get_or, slice_get-map, slice_get_within}
 use Rattle.vx_merge.specs.declared.corner.Corner.{Corner}
-use Rattle.vx_run.specs.Grammar.{texts}
-use Rattle.vx_run.specs.Merge.{corner_of, corners_of}
 use Rattle.vx_run.specs.Play.{is_corner, region_at_corner, with_corner, with_corners}
-use Rattle.vx_run.specs.inner.Placings.{placing_in}
 
 pub no_corner : Corner
 no_corner = record { x = 0; y = 0 }
@@ -169,12 +166,6 @@ region_counted xs c there =
         counted (with_corner found x) xs c j (omega (arith, within)) (lacks_still found c x none (others 0 (omega arith))) (λ k before. others (suc k) (omega (arith, before))) is
 
 -- ---- the corners of words
-
--- the corner of one
-pub corner_at : {A : Type 0} (words : List (String A)) (i : ℕ) (w : String A) → i < length words → w ≡ get_or words i w → slice_get (corners_of (map placing_in (texts words))) i ≡ Some (corner_of (placing_in (string_bytes w)))
-corner_at words i w within is =
-    slice_get-map corner_of (map placing_in (texts words)) i
-    ∙ ap (option_map corner_of) (slice_get-map placing_in (texts words) i ∙ ap (option_map placing_in) (slice_get-map string_bytes words i ∙ ap (option_map string_bytes) (slice_get_read words (length words) i w refl within is)))
 
 -- those before it are others
 abbrev pub OthersBefore : List Corner → Corner → ℕ → Type 0

@@ -20,7 +20,7 @@ pub mod Moved
 pub mod Numbering
 pub mod Once
 pub mod Performing
-pub mod Placings
+pub mod PlacingWords
 pub mod PlayAgain
 pub mod Playing
 pub mod PlayOnce

@@ -5,7 +5,7 @@ use Rattle.vx_run.specs.Grammar.{Placing, placing_word, IsPlacing, IsLevel, merg
 use Rattle.vx_run.specs.inner.Placings.{placing_in, NameLevelAndFiles, PlaceFiles}
 use Rattle.vx_run.specs.inner.Words.{BeginsNot, IsOptionFirst}
 use Rattle.vx_run.proofs.Numbering.{first_digit, option_spelled, option_first, option_once}
-use Rattle.vx_run.proofs.Placings.{words_read, some_placings, placings_are}
+use Rattle.vx_run.proofs.PlacingWords.{words_read, some_placings, placings_are}
 
 -- ---- no placing is the name of the option
 

@@ -21,7 +21,7 @@ use Rattle.vx_run.specs.Rounds.{most_sources}
 use Rattle.vx_run.specs.inner.Placings.{IsPlacingWord, placing_in}
 use Rattle.vx_run.specs.inner.Playing.{HasFound}
 use Rattle.vx_run.proofs.Corners.{many_corners}
-use Rattle.vx_run.proofs.Placings.{words_read}
+use Rattle.vx_run.proofs.PlacingWords.{words_read}
 
 -- ---- the place of a corner
 

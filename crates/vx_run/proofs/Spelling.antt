@@ -5,7 +5,7 @@ use Rattle.std.proofs.lemmas.Fmt.{decimal_injective}
 use Rattle.vx_run.specs.Grammar.{Command, show, extract, check_extract, merge, play, check_merge, verify, trial, help, version, explain, fields_words, tid_words, level_words, Placing, placing_word, AskFor, IsLevel, IsPlacing}
 use Rattle.vx_run.specs.inner.Placings.{placing_in}
 use Rattle.vx_run.proofs.Numbering.{behind_tid, behind_level, tid_first, only_tid_first, level_first, index_first, option_once, number_once}
-use Rattle.vx_run.proofs.Placings.{placings_read}
+use Rattle.vx_run.proofs.PlacingWords.{placings_read}
 use Rattle.vx_run.proofs.MergeWords.{merge_level}
 
 -- words that begin with two words are not the same

@@ -9,6 +9,7 @@ mod extract;
 mod gather;
 mod laws;
 mod merge;
+mod placings;
 mod play;
 mod program;
 mod rounds;

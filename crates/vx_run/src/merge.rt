@@ -1,7 +1,6 @@
 //! `merge` and `check merge`: the pictures of several byte streams as those of one stream, round by round.
 
 ghost use Rattle.std.specs.Prelude.{[], ◌≡◌, ◌<◌, ◌≤◌, ◌^◌, List, All, map, length, vec_len, IfOk, IfErr, OnOk};
-ghost use Rattle.std.specs.List.{AllByRecursion};
 ghost use Rattle.vx_pic.specs.Readings.{Picture as StreamPicture};
 ghost use Rattle.vx_pic.specs.Rules.{Readers};
 ghost use Rattle.vx_pic.specs.H266.{AreOfH266};
@@ -10,17 +9,16 @@ ghost use Rattle.vx_assemble.specs.Held.{HasPicture, lent_by};
 ghost use Rattle.vx_merge.specs.Merging.{AreCorners, SameTask, Stands};
 ghost use Rattle.vx_run.specs.Change.{change, sources_change};
 ghost use Rattle.vx_run.specs.Conclusion.{IsOfCommand};
-ghost use Rattle.vx_run.specs.Grammar.{texts};
 ghost use Rattle.vx_run.specs.Merge.{ChecksMerge, ChecksMergeBy, Merges, MergesBy, WrittenIsReadAgain, length_refused, corners_of as corners_by};
 ghost use Rattle.vx_run.specs.Rounds.{most_sources};
 ghost use Rattle.vx_run.specs.inner.Advancing.{AdvancesAll, AreWaiting, GoesBy, OfAll};
 ghost use Rattle.vx_run.specs.inner.Merging.{DoesRound, TakesRound, TakesRounds};
-ghost use Rattle.vx_run.specs.inner.Placings.{IsPlacingWord, placing_in};
+ghost use Rattle.vx_run.specs.inner.Placings.{spelled};
 
 use crate::extract::ok_line;
+use crate::placings::Placings;
 use crate::rounds::{MOST_SOURCES, advance_each, feeds_for, going, one_more, too_many};
 use crate::stop::{Place, Stop};
-use crate::words::placing_of;
 use std::alloc::{AllocError, Global};
 use vx_again::{merge_is_read_again, pictures_can_be_merged};
 use vx_annexb::units_can_stand;
@@ -44,14 +42,12 @@ enum Work {
 pub(crate) fn merge<K: Sink>(
     alloc: Global,
     level: Option<u8>,
-    placings: &[String],
+    placings: Placings<'_>,
     sources: &mut Vec<Box<dyn Source>>,
     out: &mut K,
 ) -> Result<(), Stop>
-    requires words { AllByRecursion IsPlacingWord (texts placings.now) }
-    requires some { 0 < length placings.now }
-    requires count { vec_len sources.old ≡ length placings.now }
-    ensures merges { Merges (corners_by (map placing_in (texts placings.now))) level
+    requires count { vec_len sources.old ≡ length placings.words.now }
+    ensures merges { Merges (corners_by (spelled placings.entry.words.now)) level
         (sources_change bytes_left read_faults sources.old.items sources.new.items)
         (change K.bytes_taken K.write_faults out.old out.new) result }
     ensures list { vec_len sources.new ≡ vec_len sources.old }
@@ -66,22 +62,20 @@ pub(crate) fn merge<K: Sink>(
 fn write_rounds<K: Sink>(
     alloc: Global,
     level: Option<u8>,
-    placings: &[String],
+    placings: Placings<'_>,
     sources: &mut Vec<Box<dyn Source>>,
     out: &mut K,
 ) -> Result<(), Stop>
-    requires words { AllByRecursion IsPlacingWord (texts placings.now) }
-    requires some { 0 < length placings.now }
-    requires few { length placings.now ≤ most_sources }
-    requires count { vec_len sources.old ≡ length placings.now }
-    ensures merges { (R : Readers) → AreOfH266 R → MergesBy R (corners_by (map placing_in (texts placings.now))) level
+    requires few { length placings.words.now ≤ most_sources }
+    requires count { vec_len sources.old ≡ length placings.words.now }
+    ensures merges { (R : Readers) → AreOfH266 R → MergesBy R (corners_by (spelled placings.entry.words.now)) level
         (sources_change bytes_left read_faults sources.old.items sources.new.items)
         (change K.bytes_taken K.write_faults out.old out.new) result }
     ensures stop { IfErr result IsOfCommand }
     ensures list { vec_len sources.new ≡ vec_len sources.old }
 {
     merges_read_again();
-    let corners = corners_of(alloc, placings)?;
+    let corners = placings.corners(alloc)?;
     take_rounds(alloc, Work::Write, level, &corners, sources, out)?;
     Ok(())
 }
@@ -98,14 +92,12 @@ fn merges_read_again()
 /// Says how many rounds of pictures the files have that these words place, where they can be written as one stream.
 pub(crate) fn check_merge<K: Sink>(
     alloc: Global,
-    placings: &[String],
+    placings: Placings<'_>,
     sources: &mut Vec<Box<dyn Source>>,
     out: &mut K,
 ) -> Result<(), Stop>
-    requires words { AllByRecursion IsPlacingWord (texts placings.now) }
-    requires some { 0 < length placings.now }
-    requires count { vec_len sources.old ≡ length placings.now }
-    ensures checks { ChecksMerge (corners_by (map placing_in (texts placings.now)))
+    requires count { vec_len sources.old ≡ length placings.words.now }
+    ensures checks { ChecksMerge (corners_by (spelled placings.entry.words.now))
         (sources_change bytes_left read_faults sources.old.items sources.new.items)
         (change K.bytes_taken K.write_faults out.old out.new) result }
     ensures list { vec_len sources.new ≡ vec_len sources.old }
@@ -119,41 +111,23 @@ pub(crate) fn check_merge<K: Sink>(
 /// Says how many rounds there are.
 fn check_rounds<K: Sink>(
     alloc: Global,
-    placings: &[String],
+    placings: Placings<'_>,
     sources: &mut Vec<Box<dyn Source>>,
     out: &mut K,
 ) -> Result<(), Stop>
-    requires words { AllByRecursion IsPlacingWord (texts placings.now) }
-    requires some { 0 < length placings.now }
-    requires few { length placings.now ≤ most_sources }
-    requires count { vec_len sources.old ≡ length placings.now }
-    ensures checks { (R : Readers) → AreOfH266 R → ChecksMergeBy R (corners_by (map placing_in (texts placings.now)))
+    requires few { length placings.words.now ≤ most_sources }
+    requires count { vec_len sources.old ≡ length placings.words.now }
+    ensures checks { (R : Readers) → AreOfH266 R → ChecksMergeBy R (corners_by (spelled placings.entry.words.now))
         (sources_change bytes_left read_faults sources.old.items sources.new.items)
         (change K.bytes_taken K.write_faults out.old out.new) result }
     ensures stop { IfErr result IsOfCommand }
     ensures list { vec_len sources.new ≡ vec_len sources.old }
 {
-    let corners = corners_of(alloc, placings)?;
+    let corners = placings.corners(alloc)?;
     let rounds = take_rounds(alloc, Work::Check, None, &corners, sources, out)?;
     let line = ok_line(alloc, rounds)?;
     write_all(out, &line)?;
     Ok(())
-}
-
-/// The corners of the regions in which these words place files.
-pub(crate) fn corners_of(alloc: Global, placings: &[String]) -> Result<Vec<Corner>, AllocError>
-    requires { AllByRecursion IsPlacingWord (texts placings.now) }
-    ensures { IfOk result (λ corners. corners.items ≡ corners_by (map placing_in (texts placings.now))) }
-{
-    let mut corners = Vec::new(alloc);
-    for word in placings {
-        let placing = placing_of(word.as_str()).unwrap();
-        corners.push(Corner {
-            x: placing.x,
-            y: placing.y,
-        })?;
-    }
-    Ok(corners)
 }
 
 /// Takes round after round of pictures of the sources, and says how many there are.

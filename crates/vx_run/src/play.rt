@@ -1,7 +1,6 @@
 //! `play`: the files of each region one behind another, and the regions put together, round by round.
 
 ghost use Rattle.std.specs.Prelude.{◌≡◌, ◌≢◌, ◌<◌, ◌≤◌, [], ℕ, List, All, map, length, replicate, vec_len, slice_get, slice_index, Option as OptionOf, None, Err, IfSome, IfOk, IfErr, OnOk, MatchOption};
-ghost use Rattle.std.specs.List.{AllByRecursion};
 ghost use Rattle.vx_pic.specs.Readings.{Picture as StreamPicture};
 ghost use Rattle.vx_pic.specs.Rules.{Readers};
 ghost use Rattle.vx_pic.specs.H266.{AreOfH266};
@@ -12,16 +11,17 @@ ghost use Rattle.vx_play.specs.Scheduled.{regions_counted, files_of_region};
 ghost use Rattle.vx_run.specs.Change.{change, sources_change};
 ghost use Rattle.vx_run.specs.Conclusion.{IsOfCommand};
 ghost use Rattle.vx_run.specs.Grammar.{Placing as PlacingAsked, play as for_play, AskFor, texts};
-ghost use Rattle.vx_run.specs.Merge.{corner_of as corner_by, corners_of as corners_by};
+ghost use Rattle.vx_run.specs.Merge.{corners_of as corners_by};
 ghost use Rattle.vx_run.specs.Play.{Plays, PlayedIsReadAgain, file_regions, most_files, region_corners, region_at_corner, with_corner, with_corners, too_many_files as too_many_of_files};
 ghost use Rattle.vx_run.specs.Rounds.{most_sources};
-ghost use Rattle.vx_run.specs.inner.Placings.{IsPlacingWord, placing_in};
+ghost use Rattle.vx_run.specs.inner.Placings.{spelled};
 ghost use Rattle.vx_run.specs.inner.Playing.{AdvancesEach, AdvancesRegions, AreFew, ArePlaced, GoesOn, HasFound, IsAt, PlaysRound, PlaysRounds, SameBut, SameFiles, WritesRound};
 
-use crate::merge::{all_go_on, corners_of};
+use crate::merge::all_go_on;
+use crate::placings::Placings;
 use crate::rounds::{MOST_SOURCES, advance, feeds_for, going, one_more, too_many};
 use crate::stop::{Place, Stop};
-use crate::words::{Command, command_of, placing_of};
+use crate::words::{Command, command_of};
 use std::alloc::{AllocError, Global};
 use vx_again::{merge_is_read_again, pictures_can_be_merged, played_can_be_merged};
 use vx_annexb::units_can_stand;
@@ -50,14 +50,12 @@ struct Regions {
 pub(crate) fn play<K: Sink>(
     alloc: Global,
     level: Option<u8>,
-    placings: &[String],
+    placings: Placings<'_>,
     sources: &mut Vec<Box<dyn Source>>,
     out: &mut K,
 ) -> Result<(), Stop>
-    requires words { AllByRecursion IsPlacingWord (texts placings.now) }
-    requires some { 0 < length placings.now }
-    requires count { vec_len sources.old ≡ length placings.now }
-    ensures plays { Plays (region_corners (map placing_in (texts placings.now))) level (file_regions (map placing_in (texts placings.now)))
+    requires count { vec_len sources.old ≡ length placings.words.now }
+    ensures plays { Plays (region_corners (spelled placings.entry.words.now)) level (file_regions (spelled placings.entry.words.now))
         (sources_change bytes_left read_faults sources.old.items sources.new.items)
         (change K.bytes_taken K.write_faults out.old out.new) result }
     ensures list { vec_len sources.new ≡ vec_len sources.old }
@@ -95,12 +93,11 @@ fn too_many_files() -> Stop
 }
 
 /// The regions in which these words place files: those with the same corner are one. None where there are too many.
-fn regions_of(alloc: Global, placings: &[String]) -> Result<Option<Regions>, AllocError>
-    requires { AllByRecursion IsPlacingWord (texts placings.now) }
-    ensures { IfOk result (λ found. MatchOption found (most_sources < length (with_corners [] (corners_by (map placing_in (texts placings.now)))))
-        (λ r. HasFound (corners_by (map placing_in (texts placings.now))) r.corners.items r.files.items × (vec_len r.corners ≤ most_sources))) }
+fn regions_of(alloc: Global, placings: Placings<'_>) -> Result<Option<Regions>, AllocError>
+    ensures { IfOk result (λ found. MatchOption found (most_sources < length (with_corners [] (corners_by (spelled placings.entry.words.now))))
+        (λ r. HasFound (corners_by (spelled placings.entry.words.now)) r.corners.items r.files.items × (vec_len r.corners ≤ most_sources))) }
 {
-    let all = corners_of(alloc, placings)?;
+    let all = placings.corners(alloc)?;
     let mut corners = Vec::new(alloc);
     let mut files = Vec::new(alloc);
     for corner in &all {
@@ -348,9 +345,8 @@ pub fn play_region(words: &[String], k: usize) -> Option<usize>
 }
 
 /// The region of the `k`-th of these words: as many as there are corners before the first word with its own.
-fn file_region(placings: &[String], k: usize) -> Option<usize>
-    requires { AllByRecursion IsPlacingWord (texts placings.now) }
-    ensures { result ≡ slice_get (file_regions (map placing_in (texts placings.now))) k }
+fn file_region(placings: Placings<'_>, k: usize) -> Option<usize>
+    ensures { result ≡ slice_get (file_regions (spelled placings.entry.words.now)) k }
 {
     if k >= placings.len() {
         return None;
@@ -365,30 +361,17 @@ fn file_region(placings: &[String], k: usize) -> Option<usize>
 }
 
 /// The first of these words with the corner of the `k`-th.
-fn first_like(placings: &[String], k: usize) -> usize
-    requires words { AllByRecursion IsPlacingWord (texts placings.now) }
-    requires within { k < length placings.now }
-    ensures first { let corners = corners_by (map placing_in (texts placings.now)) in
+fn first_like(placings: Placings<'_>, k: usize) -> usize
+    requires within { k < length placings.words.now }
+    ensures first { let corners = corners_by (spelled placings.entry.words.now) in
         IfSome (slice_get corners k) (λ corner. result ≡ region_at_corner corners corner) }
     ensures within { result ≤ k }
 {
-    let corner = corner_in(placings[k].as_str());
+    let corner = placings.at(k).corner();
     for i in 0..k {
-        if corner_in(placings[i].as_str()) == corner {
+        if placings.at(i).corner() == corner {
             return i;
         }
     }
     k
-}
-
-/// The corner that a word names.
-fn corner_in(word: &str) -> Corner
-    requires { IsPlacingWord word.now }
-    ensures { result ≡ corner_by (placing_in word.now) }
-{
-    let placing = placing_of(word).unwrap();
-    Corner {
-        x: placing.x,
-        y: placing.y,
-    }
 }

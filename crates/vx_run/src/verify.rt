@@ -1,23 +1,21 @@
 //! `verify merge`: whether the pictures of a finished byte stream are those of its sources put together, round by round.
 
 ghost use Rattle.std.specs.Prelude.{◌≡◌, ◌+◌, ◌<◌, ◌≤◌, ◌^◌, List, All, None, map, length, vec_len, IfOk, IfErr, OnOk};
-ghost use Rattle.std.specs.List.{AllByRecursion};
 ghost use Rattle.vx_pic.specs.Readings.{Picture as StreamPicture};
 ghost use Rattle.vx_pic.specs.Rules.{Readers};
 ghost use Rattle.vx_pic.specs.H266.{AreOfH266};
 ghost use Rattle.vx_assemble.specs.Held.{HasPicture, lent_by};
 ghost use Rattle.vx_run.specs.Change.{change, sources_change};
 ghost use Rattle.vx_run.specs.Conclusion.{IsOfCommand};
-ghost use Rattle.vx_run.specs.Grammar.{texts};
 ghost use Rattle.vx_run.specs.Rounds.{most_sources};
 ghost use Rattle.vx_run.specs.Verify.{Verifies, VerifiesBy, length_differs, spots_of as spots_by, yes_text};
 ghost use Rattle.vx_run.specs.inner.Advancing.{AdvancesAll, AreWaiting, GoesBy, OfAll};
-ghost use Rattle.vx_run.specs.inner.Placings.{IsPlacingWord, placing_in};
+ghost use Rattle.vx_run.specs.inner.Placings.{spelled};
 ghost use Rattle.vx_run.specs.inner.Verifying.{VerifiesRound, VerifiesRounds, stop_in};
 
+use crate::placings::Placings;
 use crate::rounds::{MOST_SOURCES, advance_each, feeds_for, going, one_more, too_many};
 use crate::stop::Stop;
-use crate::words::placing_of;
 use std::alloc::{AllocError, Global};
 use vx_assemble::Feed;
 use vx_io::{Sink, Source, write_all};
@@ -27,13 +25,12 @@ use vx_verify::{Mismatch, Spot, Verifier, VerifyError};
 /// Says how many rounds of pictures there are, where the first file is the others put together, each at its place.
 pub(crate) fn verify<K: Sink>(
     alloc: Global,
-    placings: &[String],
+    placings: Placings<'_>,
     sources: &mut Vec<Box<dyn Source>>,
     out: &mut K,
 ) -> Result<(), Stop>
-    requires words { AllByRecursion IsPlacingWord (texts placings.now) }
-    requires count { vec_len sources.old ≡ length placings.now + 1 }
-    ensures verifies { Verifies (spots_by (map placing_in (texts placings.now)))
+    requires count { vec_len sources.old ≡ length placings.words.now + 1 }
+    ensures verifies { Verifies (spots_by (spelled placings.entry.words.now))
         (sources_change bytes_left read_faults sources.old.items sources.new.items)
         (change K.bytes_taken K.write_faults out.old out.new) result }
     ensures list { vec_len sources.new ≡ vec_len sources.old }
@@ -47,14 +44,13 @@ pub(crate) fn verify<K: Sink>(
 /// Says how many rounds are verified.
 fn verify_files<K: Sink>(
     alloc: Global,
-    placings: &[String],
+    placings: Placings<'_>,
     sources: &mut Vec<Box<dyn Source>>,
     out: &mut K,
 ) -> Result<(), Stop>
-    requires words { AllByRecursion IsPlacingWord (texts placings.now) }
-    requires few { length placings.now ≤ most_sources }
-    requires count { vec_len sources.old ≡ length placings.now + 1 }
-    ensures verifies { (R : Readers) → AreOfH266 R → VerifiesBy R (spots_by (map placing_in (texts placings.now)))
+    requires few { length placings.words.now ≤ most_sources }
+    requires count { vec_len sources.old ≡ length placings.words.now + 1 }
+    ensures verifies { (R : Readers) → AreOfH266 R → VerifiesBy R (spots_by (spelled placings.entry.words.now))
         (sources_change bytes_left read_faults sources.old.items sources.new.items)
         (change K.bytes_taken K.write_faults out.old out.new) result }
     ensures stop { IfErr result IsOfCommand }
@@ -68,13 +64,12 @@ fn verify_files<K: Sink>(
 }
 
 /// The places at which these words place files.
-fn spots_of(alloc: Global, placings: &[String]) -> Result<Vec<Spot>, AllocError>
-    requires { AllByRecursion IsPlacingWord (texts placings.now) }
-    ensures { IfOk result (λ spots. spots.items ≡ spots_by (map placing_in (texts placings.now))) }
+fn spots_of(alloc: Global, placings: Placings<'_>) -> Result<Vec<Spot>, AllocError>
+    ensures { IfOk result (λ spots. spots.items ≡ spots_by (spelled placings.entry.words.now)) }
 {
     let mut spots = Vec::new(alloc);
-    for word in placings {
-        let placing = placing_of(word.as_str()).unwrap();
+    for k in 0..placings.len() {
+        let placing = placings.at(k);
         spots.push(Spot {
             x: placing.x,
             y: placing.y,

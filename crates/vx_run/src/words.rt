@@ -1,12 +1,12 @@
 //! The grammar of the program's words, without the program's name.
 
 ghost use Rattle.std.specs.Prelude.{◌≡◌, ◌≤◌, ◌∷◌, ◌↔◌, [], ℕ, Bool, List, Option as OptionOf, true, false, decimal, codes, None, IfSome, IfNone, IsTrue, MatchOption, map, slice_get, option_copied};
-ghost use Rattle.std.specs.List.{AllByRecursion};
 ghost use Rattle.vx_run.specs.inner.Asked.{asked};
 ghost use Rattle.vx_run.specs.Grammar.{Command as Asked, show, extract, check_extract, merge, play, check_merge, verify, trial, explain, Placing as PlacingAsked, IsRuleOrField, AskFor, IsUnderstood, NamesFiles, files_of, texts};
-ghost use Rattle.vx_run.specs.inner.Placings.{IsPlacingWord, HasPlacings, NameLevelAndFiles, PlaceFiles, Spells, placed, placing_in};
+ghost use Rattle.vx_run.specs.inner.Placings.{NameLevelAndFiles, spelled};
 ghost use Rattle.vx_run.specs.inner.Words.{BeginsNot, NoneAlone, IsNumberFirst, IsOptionFirst, is_plain};
 
+use crate::placings::Placings;
 use vx_explain::{explanation, rules_and_fields_are_explained};
 
 /// What the words ask for, with what they name.
@@ -30,24 +30,24 @@ pub(crate) enum Command<'a> {
         index: u32,
         file: &'a str,
     },
-    /// `merge [--level N] X,Y=FILE ..`, with the words behind the level.
+    /// `merge [--level N] X,Y=FILE ..`
     Merge {
         level: Option<u8>,
-        placings: &'a [String],
+        placings: Placings<'a>,
     },
-    /// `play [--level N] X,Y=FILE ..`, with the words behind the level.
+    /// `play [--level N] X,Y=FILE ..`
     Play {
         level: Option<u8>,
-        placings: &'a [String],
+        placings: Placings<'a>,
     },
-    /// `check merge X,Y=FILE ..`, of which these are the words behind `merge`.
+    /// `check merge X,Y=FILE ..`
     CheckMerge {
-        placings: &'a [String],
+        placings: Placings<'a>,
     },
-    /// `verify merge OUT X,Y=FILE ..`, with the words behind the finished stream's.
+    /// `verify merge OUT X,Y=FILE ..`
     Verify {
         finished: &'a str,
-        placings: &'a [String],
+        placings: Placings<'a>,
     },
     /// `trial SEED SOURCES PICTURES`
     Trial {
@@ -65,22 +65,12 @@ pub(crate) enum Command<'a> {
     },
 }
 
-/// A file of a merge, and the upper left corner of its region, in luma samples.
-#[derive(Clone, Copy)]
-pub(crate) struct Placing<'a> {
-    pub x: u32,
-    pub y: u32,
-    pub file: &'a str,
-}
-
-/// The greatest TemporalId, level, index of a subpicture and place of a corner that words may name.
+/// The greatest TemporalId, level and index of a subpicture that words may name.
 const MOST_TID: u8 = 6;
 
 const MOST_LEVEL: u8 = 255;
 
 const MOST_INDEX: u32 = 999;
-
-const MOST_CORNER: u32 = 16_383;
 
 /// The most streams of a trial, and pictures of each.
 const MOST_STREAMS: u32 = 16;
@@ -90,7 +80,6 @@ const MOST_PICTURES: u32 = 1000;
 /// The command that the words spell.
 pub(crate) fn command_of(words: &[String]) -> Option<Command<'_>>
     ensures some { IfSome result (λ command. AskFor (texts words.now) (asked command)) }
-    ensures placings { IfSome result HasPlacings }
     ensures none { IfNone result (¬ IsUnderstood (texts words.now)) }
 {
     if let Some(command) = plain_of(words) {
@@ -123,7 +112,6 @@ pub(crate) fn command_of(words: &[String]) -> Option<Command<'_>>
 /// The command, where it is one word alone.
 fn plain_of(words: &[String]) -> Option<Command<'_>>
     ensures some { IfSome result (λ command. AskFor (texts words.now) (asked command)) }
-    ensures placings { IfSome result HasPlacings }
     ensures none { IfNone result ((command : Asked) → is_plain command ≡ true → AskFor (texts words.now) command → ⊥) }
 {
     match words {
@@ -136,7 +124,6 @@ fn plain_of(words: &[String]) -> Option<Command<'_>>
 /// `[--fields] FILE`
 fn show_of(words: &[String]) -> Option<Command<'_>>
     ensures some { IfSome result (λ command. AskFor (codes "show" ∷ texts words.now) (asked command)) }
-    ensures placings { IfSome result HasPlacings }
     ensures none { IfNone result ((fields : Bool) (file : List ℕ) → AskFor (codes "show" ∷ texts words.now) (show fields file) → ⊥) }
 {
     match file_alone(words) {
@@ -154,7 +141,6 @@ fn show_of(words: &[String]) -> Option<Command<'_>>
 fn show_fields_of(words: &[String]) -> Option<Command<'_>>
     requires { NoneAlone (texts words.now) }
     ensures some { IfSome result (λ command. AskFor (codes "show" ∷ texts words.now) (asked command)) }
-    ensures placings { IfSome result HasPlacings }
     ensures none { IfNone result ((fields : Bool) (file : List ℕ) → AskFor (codes "show" ∷ texts words.now) (show fields file) → ⊥) }
 {
     let rest = behind(words, "--fields")?;
@@ -165,7 +151,6 @@ fn show_fields_of(words: &[String]) -> Option<Command<'_>>
 /// `WORD`: a rule, or the number of a field.
 fn explain_of(words: &[String]) -> Option<Command<'_>>
     ensures some { IfSome result (λ command. AskFor (codes "--explain" ∷ texts words.now) (asked command)) }
-    ensures placings { IfSome result HasPlacings }
     ensures none { IfNone result ((word : List ℕ) → AskFor (codes "--explain" ∷ texts words.now) (explain word) → ⊥) }
 {
     match words {
@@ -189,7 +174,6 @@ fn is_rule_or_field(word: &str) -> bool
 /// What is checked.
 fn check_of(words: &[String]) -> Option<Command<'_>>
     ensures some { IfSome result (λ command. AskFor (codes "check" ∷ texts words.now) (asked command)) }
-    ensures placings { IfSome result HasPlacings }
     ensures none { IfNone result ((command : Asked) → AskFor (codes "check" ∷ texts words.now) command → ⊥) }
 {
     if let Some(rest) = behind(words, "extract") {
@@ -201,7 +185,6 @@ fn check_of(words: &[String]) -> Option<Command<'_>>
 /// `[--tid T] [--level N] INDEX FILE`
 fn extract_of(words: &[String]) -> Option<Command<'_>>
     ensures some { IfSome result (λ command. AskFor (codes "extract" ∷ texts words.now) (asked command)) }
-    ensures placings { IfSome result HasPlacings }
     ensures none { IfNone result ((tid level : OptionOf ℕ) (index : ℕ) (file : List ℕ)
         → AskFor (codes "extract" ∷ texts words.now) (extract tid level index file) → ⊥) }
 {
@@ -220,7 +203,6 @@ fn extract_of(words: &[String]) -> Option<Command<'_>>
 /// `[--tid T] INDEX FILE`
 fn check_extract_of(words: &[String]) -> Option<Command<'_>>
     ensures some { IfSome result (λ command. AskFor (codes "check" ∷ codes "extract" ∷ texts words.now) (asked command)) }
-    ensures placings { IfSome result HasPlacings }
     ensures none { IfNone result ((tid : OptionOf ℕ) (index : ℕ) (file : List ℕ)
         → AskFor (codes "check" ∷ codes "extract" ∷ texts words.now) (check_extract tid index file) → ⊥) }
 {
@@ -233,7 +215,6 @@ fn check_extract_of(words: &[String]) -> Option<Command<'_>>
 /// `[--level N] X,Y=FILE ..`
 fn merge_of(words: &[String]) -> Option<Command<'_>>
     ensures some { IfSome result (λ command. AskFor (codes "merge" ∷ texts words.now) (asked command)) }
-    ensures placings { IfSome result HasPlacings }
     ensures none { IfNone result ((level : OptionOf ℕ) (placings : List PlacingAsked)
         → AskFor (codes "merge" ∷ texts words.now) (merge level placings) → ⊥) }
 {
@@ -244,7 +225,6 @@ fn merge_of(words: &[String]) -> Option<Command<'_>>
 /// `[--level N] X,Y=FILE ..`
 fn play_of(words: &[String]) -> Option<Command<'_>>
     ensures some { IfSome result (λ command. AskFor (codes "play" ∷ texts words.now) (asked command)) }
-    ensures placings { IfSome result HasPlacings }
     ensures none { IfNone result ((level : OptionOf ℕ) (placings : List PlacingAsked)
         → AskFor (codes "play" ∷ texts words.now) (play level placings) → ⊥) }
 {
@@ -253,50 +233,41 @@ fn play_of(words: &[String]) -> Option<Command<'_>>
 }
 
 /// `[--level N] X,Y=FILE ..`: the level, if there is one, and the words behind it.
-fn level_and_files(words: &[String]) -> Option<(Option<u8>, &[String])>
+fn level_and_files(words: &[String]) -> Option<(Option<u8>, Placings<'_>)>
     ensures { MatchOption result
         ((level : OptionOf ℕ) (placings : List PlacingAsked) → NameLevelAndFiles (texts words.now) level placings → ⊥)
-        (λ r. NameLevelAndFiles (texts words.now) r.0 (map placing_in (texts r.1.now)) × AllByRecursion IsPlacingWord (texts r.1.now)) }
+        (λ r. NameLevelAndFiles (texts words.now) r.0 (spelled r.1.words.now)) }
 {
     let (level, rest) = option(words, "--level", MOST_LEVEL)?;
-    if !place_files(rest) {
-        return None;
-    }
-    Some((level, rest))
+    let placings = Placings::of(rest)?;
+    Some((level, placings))
 }
 
 /// `X,Y=FILE ..`
 fn check_merge_of(words: &[String]) -> Option<Command<'_>>
     ensures some { IfSome result (λ command. AskFor (codes "check" ∷ codes "merge" ∷ texts words.now) (asked command)) }
-    ensures placings { IfSome result HasPlacings }
     ensures none { IfNone result ((placings : List PlacingAsked)
         → AskFor (codes "check" ∷ codes "merge" ∷ texts words.now) (check_merge placings) → ⊥) }
 {
-    if !place_files(words) {
-        return None;
-    }
-    Some(Command::CheckMerge { placings: words })
+    let placings = Placings::of(words)?;
+    Some(Command::CheckMerge { placings })
 }
 
 /// `merge OUT X,Y=FILE ..`
 fn verify_of(words: &[String]) -> Option<Command<'_>>
     ensures some { IfSome result (λ command. AskFor (codes "verify" ∷ texts words.now) (asked command)) }
-    ensures placings { IfSome result HasPlacings }
     ensures none { IfNone result ((finished : List ℕ) (placings : List PlacingAsked)
         → AskFor (codes "verify" ∷ texts words.now) (verify finished placings) → ⊥) }
 {
     let rest = behind(words, "merge")?;
-    let (finished, placings) = file_first(rest)?;
-    if !place_files(placings) {
-        return None;
-    }
+    let (finished, rest) = file_first(rest)?;
+    let placings = Placings::of(rest)?;
     Some(Command::Verify { finished, placings })
 }
 
 /// `SEED SOURCES PICTURES`
 fn trial_of(words: &[String]) -> Option<Command<'_>>
     ensures some { IfSome result (λ command. AskFor (codes "trial" ∷ texts words.now) (asked command)) }
-    ensures placings { IfSome result HasPlacings }
     ensures none { IfNone result ((seed sources pictures : ℕ) → AskFor (codes "trial" ∷ texts words.now) (trial seed sources pictures) → ⊥) }
 {
     let [seed, sources, pictures] = words else {
@@ -320,42 +291,6 @@ fn counted(word: &str, most: u32) -> Option<u32>
         return None;
     }
     Some(n)
-}
-
-/// Whether there are words, and each is `X,Y=FILE`.
-fn place_files(words: &[String]) -> bool
-    ensures { IsTrue result ↔ PlaceFiles (texts words.now) }
-{
-    if words.is_empty() {
-        return false;
-    }
-    are_placings(words)
-}
-
-/// Whether each word is `X,Y=FILE`.
-fn are_placings(words: &[String]) -> bool
-    ensures { IsTrue result ↔ AllByRecursion IsPlacingWord (texts words.now) }
-{
-    for word in words {
-        if placing_of(word.as_str()).is_none() {
-            return false;
-        }
-    }
-    true
-}
-
-/// `X,Y=FILE`
-pub(crate) fn placing_of(word: &str) -> Option<Placing<'_>>
-    ensures { MatchOption result (IsPlacingWord word.now → ⊥) (λ p. Spells word.now (placed p)) }
-{
-    let (corner, file) = word.split_once('=')?;
-    let (x, y) = corner.split_once(',')?;
-    let x = number(x, MOST_CORNER)?;
-    let y = number(y, MOST_CORNER)?;
-    if file.is_empty() {
-        return None;
-    }
-    Some(Placing { x, y, file })
 }
 
 /// The words behind this one, where it comes first.
@@ -400,7 +335,7 @@ fn number_first(words: &[String], most: u32) -> Option<(u32, &[String])>
 
 /// The number that a word is, of at most so much. `parse` takes a plus and further zeros
 /// before it, which are no part of a number here.
-fn number(word: &str, most: u32) -> Option<u32>
+pub(crate) fn number(word: &str, most: u32) -> Option<u32>
     ensures { MatchOption result ((n : ℕ) → n ≤ most → word.now ≡ decimal n → ⊥) (λ n. (word.now ≡ decimal n) × (n ≤ most)) }
 {
     let bytes = word.as_bytes();
@@ -466,9 +401,9 @@ pub fn file_word(words: &[String], k: usize) -> Option<&str>
         Command::Show { file, .. }
         | Command::Extract { file, .. }
         | Command::CheckExtract { file, .. } => file_alone_at(file, k),
-        Command::Merge { placings, .. } => placed_file(placings, k),
-        Command::Play { placings, .. } => placed_file(placings, k),
-        Command::CheckMerge { placings } => placed_file(placings, k),
+        Command::Merge { placings, .. } => placings.file(k),
+        Command::Play { placings, .. } => placings.file(k),
+        Command::CheckMerge { placings } => placings.file(k),
         Command::Verify { finished, placings } => verified_file(finished, placings, k),
         Command::Trial { .. } | Command::Help | Command::Version | Command::Explain { .. } => None,
     }
@@ -481,22 +416,12 @@ fn file_alone_at(file: &str, k: usize) -> Option<&str>
     (k == 0).then_some(file)
 }
 
-/// The `k`-th of a finished stream and the files of these words.
-fn verified_file<'a>(finished: &'a str, words: &'a [String], k: usize) -> Option<&'a str>
-    requires { AllByRecursion IsPlacingWord (texts words.now) }
-    ensures { option_copied result ≡ slice_get (finished.now ∷ map (λ p. p.file) (map placing_in (texts words.now))) k }
+/// The `k`-th of a finished stream and the files that are placed.
+fn verified_file<'a>(finished: &'a str, placings: Placings<'a>, k: usize) -> Option<&'a str>
+    ensures { option_copied result ≡ slice_get (finished.now ∷ map (λ p. p.file) (spelled placings.entry.words.now)) k }
 {
     if k == 0 {
         return Some(finished);
     }
-    placed_file(words, k - 1)
-}
-
-/// The file of the `k`-th of these words.
-fn placed_file(words: &[String], k: usize) -> Option<&str>
-    requires { AllByRecursion IsPlacingWord (texts words.now) }
-    ensures { option_copied result ≡ slice_get (map (λ p. p.file) (map placing_in (texts words.now))) k }
-{
-    let placing = placing_of(words.get(k)?.as_str())?;
-    Some(placing.file)
+    placings.file(k - 1)
 }

@@ -1,10 +1,8 @@
 -- Words `X,Y=FILE`, and their parts.
-use Rattle.std.specs.Prelude.{◌≡◌, ◌≢◌, ℕ, ◌<◌, ◌==◌, List, [], ◌++◌, length, map, Bool, Option}
+use Rattle.std.specs.Prelude.{◌≡◌, ◌≢◌, ℕ, ◌<◌, ◌==◌, List, [], ◌++◌, length, map, Bool, Option, String}
 use Rattle.std.specs.List.{AllByRecursion, before_first, after_first}
 use Rattle.std.specs.Str.Parse.{digits_value}
-use Rattle.vx_run.specs.declared.words.Command.{Command}
-use Rattle.vx_run.specs.declared.words.Command.TheVariants.{Show, Extract, CheckExtract, Merge, Play, CheckMerge, Verify, Trial, Help, Version, Explain}
-use Rattle.vx_run.specs.declared.words.Placing.{Placing as Placed}
+use Rattle.vx_run.specs.declared.placings.Placing.{Placing as Placed}
 use Rattle.vx_run.specs.Grammar.{Placing, placing_word, IsPlacing, IsLevel, level_words, texts}
 
 abbrev pub is_comma : ℕ → Bool
@@ -33,6 +31,10 @@ pub record Spells (word : List ℕ) (p : Placing) : Type 0 where
 abbrev pub IsPlacingWord : List ℕ → Type 0
 IsPlacingWord word = (p : Placing) × Spells word p
 
+-- it spells what its parts are
+abbrev pub SpellsItsParts : List ℕ → Type 0
+SpellsItsParts word = (word ≡ placing_word (placing_in word)) × IsPlacing (placing_in word)
+
 -- there are words, and each does
 abbrev pub PlaceFiles : List (List ℕ) → Type 0
 PlaceFiles words = (0 < length words) × AllByRecursion IsPlacingWord words
@@ -42,16 +44,6 @@ pub record NameLevelAndFiles (words : List (List ℕ)) (level : Option ℕ) (pla
   pub spelled : words ≡ level_words level ++ map placing_word placings
   pub named : IsLevel level × (placings ≢ []) × AllByRecursion IsPlacing placings
 
--- the words of a merge do
-abbrev pub HasPlacings : Command → Type 0
-HasPlacings (Show fields file) = Unit {0}
-HasPlacings (Extract tid level index file) = Unit {0}
-HasPlacings (CheckExtract tid index file) = Unit {0}
-HasPlacings (Merge level placings) = AllByRecursion IsPlacingWord (texts placings.now)
-HasPlacings (Play level placings) = AllByRecursion IsPlacingWord (texts placings.now)
-HasPlacings (CheckMerge placings) = AllByRecursion IsPlacingWord (texts placings.now)
-HasPlacings (Verify finished placings) = AllByRecursion IsPlacingWord (texts placings.now)
-HasPlacings (Trial seed sources pictures) = Unit {0}
-HasPlacings Help = Unit {0}
-HasPlacings Version = Unit {0}
-HasPlacings (Explain word) = Unit {0}
+-- what such words spell
+abbrev pub spelled : {A : Type 0} → List (String A) → List Placing
+spelled words = map placing_in (texts words)

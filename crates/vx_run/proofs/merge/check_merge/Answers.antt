@@ -3,13 +3,13 @@ use Rattle.vx_run.proofs.Corners.{many_corners, too_many_stop}
 use Rattle.vx_run.proofs.merge.check_merge.Goals as goal
 
 -- more than 64 are named
-pub returns-then-placings-gt-MOST_SOURCES-clause-checks : goal.returns-then-placings-gt-MOST_SOURCES-clause-checks
-returns-then-placings-gt-MOST_SOURCES-clause-checks g c =
-    let count = many_corners c.args.placings.now in
-    record { stop = too_many_stop c.too_many.result c.too_many.ensures; many = λ many. (c.too_many.ensures, refl, refl); few = λ few. absurd (omega (arith, few, count)) }
+pub returns-then-len-gt-MOST_SOURCES-clause-checks : goal.returns-then-len-gt-MOST_SOURCES-clause-checks
+returns-then-len-gt-MOST_SOURCES-clause-checks g c =
+    let count = many_corners c.args.placings.words.now in
+    record { stop = too_many_stop c.too_many.result c.too_many.ensures; many = λ many. (c.too_many.ensures, refl, refl); few = λ few. absurd (omega (arith, few, count, c.len.ensures)) }
 
 -- or not
 pub returns-clause-checks : goal.returns-clause-checks
 returns-clause-checks g c =
-    let count = many_corners c.args.placings.now in
-    record { stop = c.check_rounds.ensures.stop; many = λ many. absurd (omega (arith, many, count)); few = λ few. c.check_rounds.ensures.checks }
+    let count = many_corners c.args.placings.words.now in
+    record { stop = c.check_rounds.ensures.stop; many = λ many. absurd (omega (arith, many, count, c.len.ensures)); few = λ few. c.check_rounds.ensures.checks }

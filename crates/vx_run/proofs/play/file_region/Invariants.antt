@@ -7,4 +7,4 @@ use Rattle.vx_run.proofs.play.file_region.Given as goal
 
 -- the regions of the words so far
 abbrev pub invariant-loop-i : goal.invariant-loop-i
-invariant-loop-i l = (l.region ≡ regions_before (corners_of (map placing_in (texts l.fn.placings))) l.i) × (l.region ≤ l.i)
+invariant-loop-i l = (l.region ≡ regions_before (corners_of (map placing_in (texts l.fn.placings.words.now))) l.i) × (l.region ≤ l.i)

@@ -8,4 +8,4 @@ use Rattle.vx_run.proofs.play.first_like.Given as goal
 
 -- those before it are others
 abbrev pub invariant-loop-i : goal.invariant-loop-i
-invariant-loop-i l = (j : ℕ) (d : Corner) → j < l.i → is_corner l.corner (get_or (corners_of (map placing_in (texts l.fn.placings))) j d) ≡ false
+invariant-loop-i l = (j : ℕ) (d : Corner) → j < l.i → is_corner l.corner (get_or (corners_of (map placing_in (texts l.fn.placings.words.now))) j d) ≡ false

@@ -54,40 +54,40 @@ returns-in-Some-CheckExtract-clause-performs g c =
 pub merge-requires : goal.merge-requires
 merge-requires g c =
     let spelled = rw c.in-Some-Merge.field-0-is at c.in-Some-Merge.ensures.some in
-    let count = merge_count _ _ (merge c.in-Some-Merge.level (map placing_in (texts c.in-Some-Merge.placings.now))) c.in-Some-Merge.placings.now refl c.requires spelled spelled.named.1 in
-    record { words = rw c.in-Some-Merge.field-0-is at c.in-Some-Merge.ensures.placings; some = count.0; count = count.1 }
+    let count = merge_count _ _ (merge c.in-Some-Merge.level (map placing_in (texts c.in-Some-Merge.placings.words.now))) c.in-Some-Merge.placings.words.now refl c.requires spelled spelled.named.1 in
+    record { count = count.1 }
 
 pub returns-in-Some-Merge-clause-performs : goal.returns-in-Some-Merge-clause-performs
 returns-in-Some-Merge-clause-performs g c =
-    performs _ _ _ _ (merge c.in-Some-Merge.level (map placing_in (texts c.in-Some-Merge.placings.now))) (rw c.in-Some-Merge.field-0-is at c.in-Some-Merge.ensures.some) c.merge.ensures.merges
+    performs _ _ _ _ (merge c.in-Some-Merge.level (map placing_in (texts c.in-Some-Merge.placings.words.now))) (rw c.in-Some-Merge.field-0-is at c.in-Some-Merge.ensures.some) c.merge.ensures.merges
 
 pub play-requires : goal.play-requires
 play-requires g c =
     let spelled = rw c.in-Some-Play.field-0-is at c.in-Some-Play.ensures.some in
-    let count = merge_count _ _ (play c.in-Some-Play.level (map placing_in (texts c.in-Some-Play.placings.now))) c.in-Some-Play.placings.now refl c.requires spelled spelled.named.1 in
-    record { words = rw c.in-Some-Play.field-0-is at c.in-Some-Play.ensures.placings; some = count.0; count = count.1 }
+    let count = merge_count _ _ (play c.in-Some-Play.level (map placing_in (texts c.in-Some-Play.placings.words.now))) c.in-Some-Play.placings.words.now refl c.requires spelled spelled.named.1 in
+    record { count = count.1 }
 
 pub returns-in-Some-Play-clause-performs : goal.returns-in-Some-Play-clause-performs
 returns-in-Some-Play-clause-performs g c =
-    performs _ _ _ _ (play c.in-Some-Play.level (map placing_in (texts c.in-Some-Play.placings.now))) (rw c.in-Some-Play.field-0-is at c.in-Some-Play.ensures.some) c.play.ensures.plays
+    performs _ _ _ _ (play c.in-Some-Play.level (map placing_in (texts c.in-Some-Play.placings.words.now))) (rw c.in-Some-Play.field-0-is at c.in-Some-Play.ensures.some) c.play.ensures.plays
 
 pub check_merge-requires : goal.check_merge-requires
 check_merge-requires g c =
     let spelled = rw c.in-Some-CheckMerge.field-0-is at c.in-Some-CheckMerge.ensures.some in
-    let count = merge_count _ _ (check_merge (map placing_in (texts c.in-Some-CheckMerge.placings.now))) c.in-Some-CheckMerge.placings.now refl c.requires spelled spelled.named.0 in
-    record { words = rw c.in-Some-CheckMerge.field-0-is at c.in-Some-CheckMerge.ensures.placings; some = count.0; count = count.1 }
+    let count = merge_count _ _ (check_merge (map placing_in (texts c.in-Some-CheckMerge.placings.words.now))) c.in-Some-CheckMerge.placings.words.now refl c.requires spelled spelled.named.0 in
+    record { count = count.1 }
 
 pub returns-in-Some-CheckMerge-clause-performs : goal.returns-in-Some-CheckMerge-clause-performs
 returns-in-Some-CheckMerge-clause-performs g c =
-    performs _ _ _ _ (check_merge (map placing_in (texts c.in-Some-CheckMerge.placings.now))) (rw c.in-Some-CheckMerge.field-0-is at c.in-Some-CheckMerge.ensures.some) c.check_merge.ensures.checks
+    performs _ _ _ _ (check_merge (map placing_in (texts c.in-Some-CheckMerge.placings.words.now))) (rw c.in-Some-CheckMerge.field-0-is at c.in-Some-CheckMerge.ensures.some) c.check_merge.ensures.checks
 
 -- ---- finished merges
 
 pub verify-requires : goal.verify-requires
 verify-requires g c =
     let spelled = rw c.in-Some-Verify.field-0-is at c.in-Some-Verify.ensures.some in
-    record { words = rw c.in-Some-Verify.field-0-is at c.in-Some-Verify.ensures.placings; count = verify_count _ _ _ c.in-Some-Verify.placings.now c.requires spelled }
+    record { count = verify_count _ _ _ c.in-Some-Verify.placings.words.now c.requires spelled }
 
 pub returns-in-Some-Verify-clause-performs : goal.returns-in-Some-Verify-clause-performs
 returns-in-Some-Verify-clause-performs g c =
-    performs _ _ _ _ (verify _ (map placing_in (texts c.in-Some-Verify.placings.now))) (rw c.in-Some-Verify.field-0-is at c.in-Some-Verify.ensures.some) c.verify.ensures.verifies
+    performs _ _ _ _ (verify _ (map placing_in (texts c.in-Some-Verify.placings.words.now))) (rw c.in-Some-Verify.field-0-is at c.in-Some-Verify.ensures.some) c.verify.ensures.verifies

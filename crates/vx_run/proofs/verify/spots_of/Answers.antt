@@ -1,30 +1,21 @@
-use Rattle.std.proofs.Common.{◌≡◌, ◌++◌, ◌∷◌, [], ◌∙◌, List, length, ap, refl, subst, sym}
-use Rattle.std.proofs.lemmas.Option.{slice_get_read}
+use Rattle.std.proofs.Common.{◌≡◌, ◌≤◌, ◌++◌, ◌∷◌, [], ◌∙◌, List, length, ap, arith}
+use Rattle.std.proofs.Math.Seq.{take_all}
 use Rattle.vx_verify.specs.declared.spot.Spot.{Spot}
-use Rattle.vx_run.specs.Verify.{spot_of}
-use Rattle.vx_run.specs.inner.Placings.{IsPlacingWord, Spells, placed}
-use Rattle.vx_run.proofs.Placings.{one_of_them}
-use Rattle.vx_run.proofs.Corners.{placed_some, placed_so, placed_more, placed_all}
+use Rattle.vx_run.specs.Verify.{spot_of, spots_of}
+use Rattle.vx_run.specs.inner.Placings.{placed, spelled}
+use Rattle.vx_run.proofs.Corners.{many_placed}
+use Rattle.vx_run.proofs.PlacingWords.{made_at, take_next}
 use Rattle.vx_run.proofs.verify.spots_of.Goals as goal
 
--- each word places a file
-pub unwrap-placing-requires : goal.unwrap-placing-requires
-unwrap-placing-requires c =
-    let words = c.args.placings.now in
-    let w = c.word-item.result in
-    let at = slice_get_read words (length words) c.loop-word.word-index w refl c.loop-word-test.true c.word-item.is in
-    placed_some c.placing_of.result _ _ c.placing_of.ensures (subst IsPlacingWord (sym c.as_str.ensures.value) (one_of_them words c.loop-word.word-index w at c.requires))
-
-pub loop-word-preserved : goal.loop-word-preserved
-loop-word-preserved c =
-    let words = c.args.placings.now in
-    let w = c.word-item.result in
-    let at = slice_get_read words (length words) c.loop-word.word-index w refl c.loop-word-test.true c.word-item.is in
-    let p = c.unwrap-placing.result in
-    let spells = subst (λ t. Spells t (placed p)) c.as_str.ensures.value (placed_so c.placing_of.result _ _ p c.unwrap-placing.ensures c.placing_of.ensures) in
-    let spot : Spot = record { x = p.x; y = p.y } in
-    let pushed : c.push.new.self.items ≡ c.loop-word.spots.items ++ spot ∷ [] = c.in_ok-push.ensures.items in
-    pushed ∙ ap (λ (l : List Spot). l ++ spot ∷ []) c.loop-word.invariant ∙ placed_more spot_of words c.loop-word.word-index w p at spells
+pub loop-k-preserved : goal.loop-k-preserved
+loop-k-preserved c =
+    let all = spots_of (spelled c.args.placings.words.now) in
+    let x = spot_of (placed c.at-placing.result) in
+    let pushed : c.push.new.self.items ≡ c.loop-k.spots.items ++ x ∷ [] = c.in_ok-push.ensures.items in
+    pushed ∙ ap (λ (l : List Spot). l ++ x ∷ []) c.loop-k.invariant ∙ take_next all c.loop-k.k x (made_at spot_of (spelled c.args.placings.words.now) c.loop-k.k (placed c.at-placing.result) c.at-placing.ensures)
 
 pub returns : goal.returns
-returns c = c.loop-word.invariant ∙ placed_all spot_of c.args.placings.now c.loop-word.word-index c.loop-word-test.false
+returns c =
+    let all = spots_of (spelled c.args.placings.words.now) in
+    let past : length all ≤ c.loop-k.k = omega (arith, c.loop-k-test.false, c.len-k-end.ensures, many_placed spot_of c.args.placings.words.now) in
+    c.loop-k.invariant ∙ take_all c.loop-k.k all past

@@ -1,9 +1,8 @@
-use Rattle.std.proofs.Common.{◌≡◌, map, take}
-use Rattle.vx_run.specs.Grammar.{texts}
+use Rattle.std.proofs.Common.{◌≡◌, take}
 use Rattle.vx_run.specs.Verify.{spots_of}
-use Rattle.vx_run.specs.inner.Placings.{placing_in}
+use Rattle.vx_run.specs.inner.Placings.{spelled}
 use Rattle.vx_run.proofs.verify.spots_of.Given as goal
 
 -- those so far
-abbrev pub invariant-loop-word : goal.invariant-loop-word
-invariant-loop-word l = l.spots.items ≡ spots_of (map placing_in (texts (take l.word-index l.placings)))
+abbrev pub invariant-loop-k : goal.invariant-loop-k
+invariant-loop-k l = l.spots.items ≡ take l.k (spots_of (spelled l.placings.words.now))

@@ -7,12 +7,12 @@ use Rattle.vx_run.proofs.words.file_count.Goals as goal
 pub returns-in-Some-Merge : goal.returns-in-Some-Merge
 returns-in-Some-Merge c =
     let spelled = rw c.in-Some-Merge.field-0-is at c.in-Some-Merge.ensures.some in
-    names_placed (texts c.args.words.now) (merge _ (map placing_in (texts c.in-Some-Merge.placings.now))) c.in-Some-Merge.placings.now refl spelled
+    rw c.len.ensures (names_placed (texts c.args.words.now) (merge _ (map placing_in (texts c.in-Some-Merge.placings.words.now))) c.in-Some-Merge.placings.words.now refl spelled)
 
 pub returns-in-Some-Play : goal.returns-in-Some-Play
 returns-in-Some-Play c =
     let spelled = rw c.in-Some-Play.field-0-is at c.in-Some-Play.ensures.some in
-    names_placed (texts c.args.words.now) (play _ (map placing_in (texts c.in-Some-Play.placings.now))) c.in-Some-Play.placings.now refl spelled
+    rw c.len-in-Some-Play.ensures (names_placed (texts c.args.words.now) (play _ (map placing_in (texts c.in-Some-Play.placings.words.now))) c.in-Some-Play.placings.words.now refl spelled)
 
 pub returns-in-Some-Verify : goal.returns-in-Some-Verify
-returns-in-Some-Verify c = names_verified (texts c.args.words.now) _ c.in-Some-Verify.placings.now (rw c.in-Some-Verify.field-0-is at c.in-Some-Verify.ensures.some)
+returns-in-Some-Verify c = rw c.len-in-Some-Verify.ensures (names_verified (texts c.args.words.now) _ c.in-Some-Verify.placings.words.now (rw c.in-Some-Verify.field-0-is at c.in-Some-Verify.ensures.some))

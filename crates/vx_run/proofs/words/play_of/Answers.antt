@@ -14,7 +14,4 @@ returns-in_err-level-clause-none c =
 pub returns-clause-some : goal.returns-clause-some
 returns-clause-some c =
     let names = rw c.in_ok-level.was at c.level_and_files.ensures in
-    asks_to_play (texts c.args.words.now) c.in_ok-level.level (map placing_in (texts c.in_ok-level.placings.now)) names.0
-
-pub returns-clause-placings : goal.returns-clause-placings
-returns-clause-placings c = (rw c.in_ok-level.was at c.level_and_files.ensures).1
+    asks_to_play (texts c.args.words.now) c.in_ok-level.level (map placing_in (texts c.in_ok-level.placings.words.now)) names

@@ -1,6 +1,6 @@
 use Rattle.std.proofs.Common.{◌∙◌, sym}
-use Rattle.vx_run.proofs.Placings.{no_bytes, some_bytes, lacks_equals, lacks_comma, lacks_x, lacks_y, lacks_file, spells_so}
-use Rattle.vx_run.proofs.words.placing_of.Goals as goal
+use Rattle.vx_run.proofs.PlacingWords.{no_bytes, some_bytes, lacks_equals, lacks_comma, lacks_x, lacks_y, lacks_file, spells_so}
+use Rattle.vx_run.proofs.placings.placing_of.Goals as goal
 
 pub returns-in_err-corner : goal.returns-in_err-corner
 returns-in_err-corner c = rw c.from_residual.ensures (lacks_equals c.args.word.now c.split_once.result c.split_once.ensures.cases c.in_err-corner.was)

@@ -4,8 +4,8 @@ use Rattle.std.proofs.Math.Seq.{take_all}
 use Rattle.std.specs.List.{AllByRecursion}
 use Rattle.vx_run.specs.Grammar.{texts}
 use Rattle.vx_run.specs.inner.Placings.{IsPlacingWord, placed}
-use Rattle.vx_run.proofs.Placings.{first_are, one_of_them, where_none, where_some, are_not, are_so}
-use Rattle.vx_run.proofs.words.are_placings.Goals as goal
+use Rattle.vx_run.proofs.PlacingWords.{first_are, one_of_them, where_none, where_some, are_not, are_so}
+use Rattle.vx_run.proofs.placings.are_placings.Goals as goal
 
 pub returns-then-is_none : goal.returns-then-is_none
 returns-then-is_none c =

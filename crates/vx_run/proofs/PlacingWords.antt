@@ -1,6 +1,6 @@
 -- Words `X,Y=FILE`: what they spell, and that they spell one thing.
 use Rattle.std.proofs.Common.{◌≡◌, ◌≢◌, ℕ, zero, suc, ◌+◌, ◌-◌, ◌<◌, ◌≤◌, ◌^◌, List, [], ◌∷◌, ◌++◌, ◌∙◌, Option, Some, None, Bool, true, false, length, get_or, take, drop, map, codes, decimal, eqb, inl, inr, sym, ap, ap₂, refl, subst, arith, append_assoc, add-one, length-append, slice_get}
-use Rattle.std.specs.Prelude.{◌↔◌, IsTrue, is_some, MatchOption, String, string_bytes}
+use Rattle.std.specs.Prelude.{◌↔◌, All, IsTrue, is_some, MatchOption, String, option_map, string_bytes}
 use denote.Ref.{Bor}
 use Rattle.std.specs.List.{AllByRecursion, position_or_len, before_first, after_first}
 use Rattle.std.specs.Str.Parse.{digits_value}
@@ -10,11 +10,12 @@ use borrow.Author.Tests.{eqb-true}
 use Rattle.std.proofs.lemmas.Bool.{cases_lt, eqb-false, ne_eqb}
 use Rattle.std.proofs.lemmas.Str.Parse.{digit_at}
 use Rattle.std.proofs.lemmas.Str.Pattern.{IsSplitOnceResult, split_after, split_parts}
-use Rattle.std.proofs.lemmas.Option.{MatchOption-at_some, MatchOption-at_none, same_Some}
+use Rattle.std.proofs.lemmas.Option.{MatchOption-at_some, MatchOption-at_none, same_Some, slice_get-map}
 use Rattle.std.proofs.lemmas.Fmt.{decimal_is_IsNumeral}
+use Rattle.std.proofs.lemmas.List.Elements.{All-nil, All-cons, All-head, All-tail}
 use Rattle.std.proofs.lemmas.List.Sums.{position_or_len_is}
 use Rattle.vx_run.specs.Grammar.{Placing, placing_word, IsPlacing, check_merge, verify, AskFor, texts}
-use Rattle.vx_run.specs.inner.Placings.{is_comma, is_equals, placing_in, Spells, IsPlacingWord, PlaceFiles}
+use Rattle.vx_run.specs.inner.Placings.{is_comma, is_equals, placing_in, Spells, IsPlacingWord, PlaceFiles, SpellsItsParts}
 
 -- ---- the first byte of a kind
 
@@ -210,6 +211,23 @@ module _ (words : List (List ℕ)) (finished : List ℕ) (ps : List Placing) (as
       let same : rest ≡ map placing_word ps = ap (λ (l : List (List ℕ)). drop 2 l) (sym is ∙ verify_words) in
       none (subst PlaceFiles (sym same) (placings_are ps asks.named.1 asks.named.2))
 
+-- words that spell placings, each by its parts
+
+own_parts : (word : List ℕ) → IsPlacingWord word → SpellsItsParts word
+own_parts word (p, spells) =
+    let read : placing_in word ≡ p = reads_one word p spells in
+    (spells.spelled ∙ ap placing_word (sym read), subst IsPlacing (sym read) spells.named)
+
+pub parts_of_words : (words : List (List ℕ)) → AllByRecursion IsPlacingWord words → All SpellsItsParts words
+parts_of_words [] all = All-nil SpellsItsParts
+parts_of_words (w ∷ words) all = All-cons SpellsItsParts w words (own_parts w all.0) (parts_of_words words all.1)
+
+pub words_of_parts : (words : List (List ℕ)) → All SpellsItsParts words → AllByRecursion IsPlacingWord words
+words_of_parts [] all = tt
+words_of_parts (w ∷ words) all =
+    let own = All-head SpellsItsParts w words all in
+    ((placing_in w, record { spelled = own.0; named = own.1 }), words_of_parts words (All-tail SpellsItsParts w words all))
+
 -- ---- word by word
 
 first_suc : {A : Type 0} (words : List (String A)) (i : ℕ) (w : String A) → i < length words → w ≡ get_or words i w → AllByRecursion IsPlacingWord (texts (take i words)) → IsPlacingWord (string_bytes w) → AllByRecursion IsPlacingWord (texts (take (suc i) words))
@@ -225,19 +243,39 @@ one_of_them [] i w at all = absurd (cc)
 one_of_them {A = A} (x ∷ words) zero w at all = subst (λ (y : String A). IsPlacingWord (string_bytes y)) (same_Some x w at) all.0
 one_of_them (x ∷ words) (suc i) w at all = one_of_them words i w at all.1
 
--- the file of one of them
-pub file_of_one : {A : Type 0} (words : List (String A)) (i : ℕ) (w : String A) (p : Placing) → slice_get words i ≡ Some w → Spells (string_bytes w) p → Some p.file ≡ slice_get (map (λ (q : Placing). q.file) (map placing_in (texts words))) i
-file_of_one [] i w p at spells = absurd (cc)
-file_of_one {A = A} (x ∷ words) zero w p at spells =
-    let read : placing_in (string_bytes x) ≡ p = ap (λ (y : String A). placing_in (string_bytes y)) (same_Some x w at) ∙ reads_one (string_bytes w) p spells in
-    ap (λ (q : Placing). let o : Option (List ℕ) = Some q.file in o) (sym read)
-file_of_one (x ∷ words) (suc i) w p at spells = file_of_one words i w p at spells
+-- what one of them spells
+pub spelled_at : {A : Type 0} (words : List (String A)) (i : ℕ) (w : String A) (p : Placing) → slice_get words i ≡ Some w → Spells (string_bytes w) p → slice_get (map placing_in (texts words)) i ≡ Some p
+spelled_at [] i w p at spells = absurd (cc)
+spelled_at {A = A} (x ∷ words) zero w p at spells = ap Some (ap (λ (y : String A). placing_in (string_bytes y)) (same_Some x w at) ∙ reads_one (string_bytes w) p spells)
+spelled_at (x ∷ words) (suc i) w p at spells = spelled_at words i w p at spells
+
+-- ---- one more of a list
+
+take_next_suc : {X : Type 0} (xs : List X) (i : ℕ) (x : X) → slice_get xs i ≡ Some x → take i xs ++ x ∷ [] ≡ take (suc i) xs
+take_next_suc [] i x at = absurd (cc)
+take_next_suc {X = X} (y ∷ xs) zero x at = ap (λ (z : X). z ∷ []) (sym (same_Some y x at))
+take_next_suc {X = X} (y ∷ xs) (suc i) x at = ap (λ (l : List X). y ∷ l) (take_next_suc xs i x at)
+
+pub take_next : {X : Type 0} (xs : List X) (i : ℕ) (x : X) → slice_get xs i ≡ Some x → take i xs ++ x ∷ [] ≡ take (i + 1) xs
+take_next xs i x at = rw add-one (take_next_suc xs i x at)
+
+-- what is made of one of them
+pub made_at : {X Y : Type 0} (f : X → Y) (xs : List X) (i : ℕ) (x : X) → slice_get xs i ≡ Some x → slice_get (map f xs) i ≡ Some (f x)
+made_at f xs i x at = slice_get-map f xs i ∙ ap (option_map f) at
 
 -- ---- what an answer says
 
 pub no_words : {A : Type 0} (words : List (String A)) → eqb (length words) 0 ≡ true → 0 < length (texts words) → ⊥
 no_words [] is some = omega (arith, some)
 no_words (w ∷ words) is some = omega (arith, eqb-true (length (w ∷ words)) 0 is)
+
+pub some_texts : {A : Type 0} (words : List (String A)) → 0 < length words → 0 < length (texts words)
+some_texts [] some = absurd (omega (arith, some))
+some_texts (w ∷ words) some = omega arith
+
+pub some_there : {A : Type 0} (words : List (String A)) → 0 < length (texts words) → 0 < length words
+some_there [] some = absurd (omega (arith, some))
+some_there (w ∷ words) some = omega arith
 
 pub some_words : {A : Type 0} (words : List (String A)) → eqb (length words) 0 ≡ false → 0 < length (texts words)
 some_words [] is = absurd (eqb-false 0 0 is refl)

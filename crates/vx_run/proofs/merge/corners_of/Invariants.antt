@@ -1,9 +1,0 @@
-use Rattle.std.proofs.Common.{◌≡◌, map, take}
-use Rattle.vx_run.specs.Grammar.{texts}
-use Rattle.vx_run.specs.Merge.{corners_of}
-use Rattle.vx_run.specs.inner.Placings.{placing_in}
-use Rattle.vx_run.proofs.merge.corners_of.Given as goal
-
--- those so far
-abbrev pub invariant-loop-word : goal.invariant-loop-word
-invariant-loop-word l = l.corners.items ≡ corners_of (map placing_in (texts (take l.word-index l.placings)))

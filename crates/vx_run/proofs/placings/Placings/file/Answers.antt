@@ -1,0 +1,10 @@
+use Rattle.std.proofs.Common.{ℕ, List, ◌≤◌, ◌∙◌, length, map, sym, arith}
+use Rattle.std.proofs.lemmas.Option.{slice_get_past}
+use Rattle.vx_run.specs.Grammar.{Placing}
+use Rattle.vx_run.specs.inner.Placings.{spelled, placed}
+use Rattle.vx_run.proofs.Corners.{many_placed}
+use Rattle.vx_run.proofs.PlacingWords.{made_at}
+use Rattle.vx_run.proofs.placings.Placings.file.Goals as goal
+
+pub returns : goal.returns
+returns c = sym (made_at (λ (p : Placing). p.file) (spelled c.args.self.now.words.now) c.args.k (placed c.at.result) c.at.ensures)
