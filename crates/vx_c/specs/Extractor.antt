@@ -1,5 +1,5 @@
 -- What each call on an extractor does to it, and what it answers.
-use Rattle.std.specs.Prelude.{◌≡◌, ◌⊎◌, ℕ, ◌-◌, ◌<◌, ◌≤◌, List, [], ◌++◌, length, take, drop, Option, Some, None, IfSome}
+use Rattle.std.specs.Prelude.{◌≡◌, ◌⊎◌, ℕ, ◌-◌, ◌≤◌, true, List, [], ◌++◌, length, take, Option, Some, None, IfSome}
 use Rattle.vx_pic.specs.declared.kind.Kind.{Kind}
 use Rattle.vx_pic.specs.Readings.{Picture}
 use Rattle.vx_pic.specs.Rules.{Readers}
@@ -13,12 +13,10 @@ use Rattle.vx_push.specs.declared.cutter.Cut.TheVariants.{Picture as ToPicture, 
 use Rattle.vx_push.specs.declared.intake.State.TheVariants.{Waits as AtWait, NoMemory as AtNoMemory}
 use Rattle.vx_push.specs.Comes.{Handed, nothing, with_more, taken_at_once}
 use Rattle.vx_push.specs.Cutting.{Cutting, HasCut, Answers}
-use Rattle.vx_c.specs.Call.{picture_by}
+use Rattle.vx_c.specs.Call.{picture_by, CopiesPicture}
 use Rattle.vx_c.specs.Merger.{level_of}
 use Rattle.vx_c.specs.declared.picture.GqPicture.{GqPicture}
-use Rattle.vx_c.specs.declared.state.State.{State}
-use Rattle.vx_c.specs.declared.state.State.TheVariants.{Extractor}
-use Rattle.vx_c.specs.declared.status.TheConstants.{DONE, MISUSED, NO_ROOM, NO_MEMORY, WAITS, ENDED}
+use Rattle.vx_c.specs.declared.status.TheConstants.{DONE, WAITS, ENDED}
 
 -- ---- open
 
@@ -36,17 +34,6 @@ pub record IsFresh (c : Cutting) (task : Task) : Type 0 where
   pub held : c.held ≡ None
   pub end : c.end ≡ None
 
--- what comes of it where the handle is closed: a fresh extractor; or a number is out of its range; or no memory was found
-pub record OpensClosed (new : Option State) (index tid level status : ℕ) : Type 0 where
-  pub status_ : (status ≡ DONE) ⊎ ((status ≡ MISUSED) ⊎ (status ≡ NO_MEMORY))
-  pub done : status ≡ DONE → IsTask index tid × ((c : Cutting) × (new ≡ Some (Extractor c)) × IsFresh c (task_of index tid level))
-  pub misused : status ≡ MISUSED → ¬ IsTask index tid
-  pub closed : (status ≡ DONE → ⊥) → new ≡ None
-
-pub record Opens (old new : Option State) (index tid level status : ℕ) : Type 0 where
-  pub open_ : (state : State) → old ≡ Some state → (status ≡ MISUSED) × (new ≡ old)
-  pub closed : old ≡ None → OpensClosed new index tid level status
-
 -- ---- push, flush, end
 
 -- more was handed in, and nothing else was done
@@ -55,10 +42,11 @@ pub record HandsOver (c later : Cutting) (more : Handed → Handed) (status : �
       → HasCut R t c h ps done → HasCut R t later (more h) ps done
   pub status_ : status ≡ DONE
 
--- so many bytes of the piece were taken, as the intake takes them
+-- so many bytes of the piece were taken, as the intake takes them, and none behind the end
 pub record Pushes (c later : Cutting) (piece : List ℕ) (taken status : ℕ) : Type 0 where
   pub hands : HandsOver c later (λ h. with_more h (take taken piece)) status
   pub few : taken ≤ length piece
+  pub ended : (R : Readers) (t : Task) (h : Handed) (ps : List Picture) (done : List Plan) → HasCut R t c h ps done → h.all ≡ true → taken ≡ 0
   pub count : c.intake.state ≡ AtWait → (taken ≡ taken_at_once c.intake (length piece)) ⊎ ((taken ≡ 0) × (later.intake.state ≡ AtNoMemory))
   pub kept : (c.intake.state ≡ AtWait → ⊥) → (taken ≡ 0) × (later ≡ c)
 
@@ -86,14 +74,9 @@ pub record Advances (c later : Cutting) (picture_before picture : GqPicture) (st
 
 -- ---- take, line
 
--- the picture is copied and given up; or there is too little room, or none waits, and nothing changes
+-- the picture is copied and given up
 pub record TakesPicture (c later : Cutting) (before after : List ℕ) (status : ℕ) : Type 0 where
-  pub status_ : (status ≡ DONE) ⊎ ((status ≡ NO_ROOM) ⊎ (status ≡ MISUSED))
-  pub done : status ≡ DONE → (later ≡ record c { held = None; cut = [] }) × (after ≡ c.cut ++ drop (length c.cut) before)
-  pub kept : (status ≡ DONE → ⊥) → (later ≡ c) × (after ≡ before)
-  pub room : status ≡ NO_ROOM → length before < length c.cut
-  pub misused : status ≡ MISUSED → c.held ≡ None
-  pub none : c.held ≡ None → status ≡ MISUSED
+  pub copies : CopiesPicture c later (record c { held = None; cut = [] }) c.held c.cut before after status
   pub cut : (R : Readers) → AreOfH266 R → (t : Task) (h : Handed) (ps : List Picture) (done : List Plan)
       → HasCut R t c h ps done → HasCut R t later h ps done
 

@@ -1,8 +1,10 @@
 -- Words and streams in the memory of a caller in C.
-use Rattle.std.specs.Prelude.{◌≡◌, ◌≢◌, ◌==◌, ℕ, All, List, map, length}
+use Rattle.std.specs.Prelude.{◌≡◌, ◌≢◌, ◌⊎◌, ◌==◌, ℕ, All, List, [], ◌++◌, map, length}
 use Rattle.std.specs.List.{concat, slice_split, sum}
 use Rattle.std.specs.Str.{IsUtf8}
 use Rattle.vx_run.specs.Grammar.{IsUnderstood, NamesFiles}
+use Rattle.vx_run.specs.declared.stop.Stop.{Stop}
+use Rattle.vx_run.specs.Conclusion.{status_of, line_of}
 
 -- the words of a text, which line feeds part
 abbrev pub words_in : List ℕ → List (List ℕ)
@@ -20,3 +22,11 @@ pub data IsMisused (text bytes sizes : List ℕ) : Type 0 where
   not_understood : ¬ IsUnderstood (words_in text) → IsMisused text bytes sizes
   unlike_files : ¬ NamesFiles (words_in text) (length sizes) → IsMisused text bytes sizes
   unlike_sizes : sum sizes ≢ length bytes → IsMisused text bytes sizes
+
+-- bytes that a line begins with
+abbrev pub IsFrontOf : List ℕ → List ℕ → Type 0
+IsFrontOf line front = (rest : List ℕ) × (line ≡ front ++ rest)
+
+-- What is told with a status: nothing where all is done; else the line of a stop that has this status, or a front of it.
+abbrev pub TellsWhy : ℕ → List ℕ → Type 0
+TellsWhy status told = ((status ≡ 0) × (told ≡ [])) ⊎ ((stop : Stop) × (status ≡ status_of stop) × IsFrontOf (line_of stop) told)

@@ -1,7 +1,7 @@
 -- What each call on a merger does to it, and what it answers.
-use Rattle.std.specs.Prelude.{◌≡◌, ◌⊎◌, ℕ, ◌-◌, ◌≤◌, ◌<◌, List, [], ◌++◌, length, map, take, drop, slice_get, Option, Some, None, IfSome}
+use Rattle.std.specs.Prelude.{◌≡◌, ◌⊎◌, ℕ, ◌-◌, ◌≤◌, true, List, [], length, map, take, slice_get, Option, Some, None, IfSome}
 use Rattle.vx_merge.specs.declared.corner.Corner.{Corner}
-use Rattle.vx_merge.specs.Merging.{AreCorners, SameTask}
+use Rattle.vx_merge.specs.Merging.{SameTask}
 use Rattle.vx_pic.specs.declared.kind.Kind.{Kind}
 use Rattle.vx_pic.specs.Rules.{Readers}
 use Rattle.vx_pic.specs.H266.{AreOfH266}
@@ -13,12 +13,10 @@ use Rattle.vx_push.specs.declared.mixer.Mixed.TheVariants.{Picture as ToPicture,
 use Rattle.vx_push.specs.Comes.{Handed, Intaking, nothing, with_more}
 use Rattle.vx_push.specs.Mixing.{Mixing, HasMixed, Answers, HandsIn}
 use Rattle.vx_push.specs.Mixing as push
-use Rattle.vx_c.specs.Call.{picture_by}
+use Rattle.vx_c.specs.Call.{picture_by, CopiesPicture}
 use Rattle.vx_c.specs.declared.corners.GqCorner.{GqCorner}
 use Rattle.vx_c.specs.declared.picture.GqPicture.{GqPicture}
-use Rattle.vx_c.specs.declared.state.State.{State}
-use Rattle.vx_c.specs.declared.state.State.TheVariants.{Merger}
-use Rattle.vx_c.specs.declared.status.TheConstants.{DONE, MISUSED, NO_ROOM, NO_MEMORY, WAITS, ENDED}
+use Rattle.vx_c.specs.declared.status.TheConstants.{DONE, MISUSED, WAITS, ENDED}
 
 -- ---- open
 
@@ -38,17 +36,6 @@ pub record IsFresh (m : Mixing) (corners : List Corner) (level : Option ℕ) : T
   pub held : m.held ≡ None
   pub end : m.end ≡ None
 
--- what comes of it where the handle is closed: a fresh merger; or the corners can't be; or no memory was found
-pub record OpensClosed (new : Option State) (corners : List Corner) (level : Option ℕ) (status : ℕ) : Type 0 where
-  pub status_ : (status ≡ DONE) ⊎ ((status ≡ MISUSED) ⊎ (status ≡ NO_MEMORY))
-  pub done : status ≡ DONE → AreCorners corners × ((m : Mixing) × (new ≡ Some (Merger m)) × IsFresh m corners level)
-  pub misused : status ≡ MISUSED → ¬ AreCorners corners
-  pub closed : (status ≡ DONE → ⊥) → new ≡ None
-
-pub record Opens (old new : Option State) (corners : List Corner) (level : Option ℕ) (status : ℕ) : Type 0 where
-  pub open_ : (state : State) → old ≡ Some state → (status ≡ MISUSED) × (new ≡ old)
-  pub closed : old ≡ None → OpensClosed new corners level status
-
 -- ---- push, flush, end
 
 -- it is done; or there is no such source, and nothing changes
@@ -57,10 +44,12 @@ pub record HandsOver (m later : Mixing) (source : ℕ) (more : Intaking → Hand
   pub done : status ≡ DONE → HandsIn m later source more
   pub wrong : status ≡ MISUSED → (length m.intakes ≤ source) × (later ≡ m)
 
--- so many bytes of the piece were taken
+-- so many bytes of the piece were taken, and none behind the end
 pub record Pushes (m later : Mixing) (source : ℕ) (piece : List ℕ) (taken status : ℕ) : Type 0 where
   pub hands : HandsOver m later source (λ i h. with_more h (take taken piece)) status
   pub few : taken ≤ length piece
+  pub ended : (R : Readers) (given : List Handed) (done : List Plan) (h : Handed) → HasMixed R m given done
+      → slice_get given source ≡ Some h → h.all ≡ true → taken ≡ 0
   pub count : status ≡ DONE → (i j : Intaking) → slice_get m.intakes source ≡ Some i → slice_get later.intakes source ≡ Some j
       → push.Takes i j (length piece) taken
   pub wrong : status ≡ MISUSED → taken ≡ 0
@@ -97,14 +86,9 @@ pub record Advances (m later : Mixing) (source_before source : ℕ) (picture_bef
 
 -- ---- take, line
 
--- the merged picture is copied and given up; or there is too little room, or none waits, and nothing changes
+-- the merged picture is copied and given up
 pub record TakesPicture (m later : Mixing) (before after : List ℕ) (status : ℕ) : Type 0 where
-  pub status_ : (status ≡ DONE) ⊎ ((status ≡ NO_ROOM) ⊎ (status ≡ MISUSED))
-  pub done : status ≡ DONE → (later ≡ record m { held = None; merged = [] }) × (after ≡ m.merged ++ drop (length m.merged) before)
-  pub kept : (status ≡ DONE → ⊥) → (later ≡ m) × (after ≡ before)
-  pub room : status ≡ NO_ROOM → length before < length m.merged
-  pub misused : status ≡ MISUSED → m.held ≡ None
-  pub none : m.held ≡ None → status ≡ MISUSED
+  pub copies : CopiesPicture m later (record m { held = None; merged = [] }) m.held m.merged before after status
   pub mixed : (R : Readers) (given : List Handed) (done : List Plan) → HasMixed R m given done → HasMixed R later given done
 
 -- why it goes on no more, if it is stopped

@@ -1,16 +1,17 @@
 //! An extractor, to which bytes are handed in as they come.
-ghost use Rattle.std.specs.Prelude.{◌≡◌, ℕ, Some, None, IfOk, IfSome, IfNone};
-ghost use Rattle.vx_push.specs.Cutting.{Cutting, ended_by, flushed_by};
-ghost use Rattle.vx_c.specs.Call.{Calls, TellsLine, TellsNone};
-ghost use Rattle.vx_c.specs.Extractor.{IsFresh, IsTask, Opens, HandsOver, Pushes, Advances, TakesPicture, stop_in, task_of};
+ghost use Rattle.std.specs.Prelude.{◌≡◌, Some, None, IfOk, IfSome, IfNone};
+ghost use Rattle.vx_push.specs.Comes.{with_end, with_zeros};
+ghost use Rattle.vx_push.specs.Cutting.{Cutting};
+ghost use Rattle.vx_c.specs.Call.{Calls, Opens, TellsLine, TellsNone};
+ghost use Rattle.vx_c.specs.Extractor.{IsFresh, IsTask, HandsOver, Pushes, Advances, TakesPicture, stop_in, task_of};
 ghost use Rattle.vx_c.specs.declared.state.State.TheVariants.{Extractor};
 
-use crate::handle::Handle;
+use crate::handle::{Handle, call_on, open_with};
 use crate::line::tell;
 use crate::merger::level_in;
 use crate::picture::{GqPicture, told};
 use crate::state::State;
-use crate::status::{DONE, ENDED, MISUSED, NO_MEMORY, NO_ROOM, WAITS, status_of};
+use crate::status::{DONE, ENDED, MISUSED, NO_MEMORY, WAITS, status_of, took};
 use std::alloc::{AllocError, Global};
 use vx_push::{Cut, Cutter};
 use vx_run::Task;
@@ -51,7 +52,7 @@ fn push(cutter: &mut Cutter, bytes: &[u8], taken: &mut usize) -> u8
 
 /// The last unit that was handed in is whole.
 fn flush(cutter: &mut Cutter) -> u8
-    ensures { HandsOver cutter.old cutter.new (flushed_by cutter.old.intake.state cutter.old.intake.flushed cutter.old.intake.ended) result }
+    ensures { HandsOver cutter.old cutter.new (with_zeros cutter.old.intake) result }
 {
     cutter.flush();
     DONE
@@ -59,7 +60,7 @@ fn flush(cutter: &mut Cutter) -> u8
 
 /// There are no more bytes.
 fn end(cutter: &mut Cutter) -> u8
-    ensures { HandsOver cutter.old cutter.new (ended_by cutter.old.intake.state) result }
+    ensures { HandsOver cutter.old cutter.new with_end result }
 {
     cutter.end();
     DONE
@@ -89,10 +90,7 @@ fn take(cutter: &mut Cutter, into: &mut [u8]) -> u8
     if cutter.picture().is_none() {
         return MISUSED;
     }
-    match cutter.take(into) {
-        Some(_) => DONE,
-        None => NO_ROOM,
-    }
+    took(cutter.take(into))
 }
 
 /// The line of what stopped it, and how many bytes it has; 0 where it isn't stopped.
@@ -114,20 +112,10 @@ pub extern "C" fn gq_extractor_open(
     temporal_id: u8,
     level: u8,
 ) -> u8
-    ensures { Opens handle.old.state handle.new.state index temporal_id level result }
+    ensures { Opens Extractor handle.old.state handle.new.state (IsTask index temporal_id)
+        (λ c. IsFresh c (task_of index temporal_id level)) result }
 {
-    if let Some(state) = handle.take(alloc) {
-        handle.put(state, alloc);
-        return MISUSED;
-    }
-    match opened(alloc, index, temporal_id, level) {
-        Ok(Some(state)) => {
-            handle.put(state, alloc);
-            DONE
-        }
-        Ok(None) => MISUSED,
-        Err(_) => NO_MEMORY,
-    }
+    open_with!(handle, alloc, opened(alloc, index, temporal_id, level))
 }
 
 /// Hands in the next bytes.
@@ -143,49 +131,31 @@ pub extern "C" fn gq_extractor_push(
     ensures none { ((c : Cutting) → handle.old.state ≡ Some (Extractor c) → ⊥) → taken.new ≡ 0 }
 {
     *taken = 0;
-    let Some(mut state) = handle.take(alloc) else {
-        return MISUSED;
-    };
-    let status = match &mut *state {
-        State::Extractor(cutter) => push(cutter, bytes, taken),
-        State::Merger(_) => MISUSED,
-    };
-    handle.put(state, alloc);
-    status
+    call_on!(
+        handle,
+        alloc,
+        Extractor,
+        MISUSED,
+        |cutter| push(cutter, bytes, taken)
+    )
 }
 
 /// The last unit that was handed in is whole.
 #[unsafe(no_mangle)]
 pub extern "C" fn gq_extractor_flush(alloc: Global, handle: &mut Handle) -> u8
     ensures { Calls Extractor handle.old.state handle.new.state result
-        (λ c later. HandsOver c later (flushed_by c.intake.state c.intake.flushed c.intake.ended) result) }
+        (λ c later. HandsOver c later (with_zeros c.intake) result) }
 {
-    let Some(mut state) = handle.take(alloc) else {
-        return MISUSED;
-    };
-    let status = match &mut *state {
-        State::Extractor(cutter) => flush(cutter),
-        State::Merger(_) => MISUSED,
-    };
-    handle.put(state, alloc);
-    status
+    call_on!(handle, alloc, Extractor, MISUSED, |cutter| flush(cutter))
 }
 
 /// There are no more bytes.
 #[unsafe(no_mangle)]
 pub extern "C" fn gq_extractor_end(alloc: Global, handle: &mut Handle) -> u8
     ensures { Calls Extractor handle.old.state handle.new.state result
-        (λ c later. HandsOver c later (ended_by c.intake.state) result) }
+        (λ c later. HandsOver c later with_end result) }
 {
-    let Some(mut state) = handle.take(alloc) else {
-        return MISUSED;
-    };
-    let status = match &mut *state {
-        State::Extractor(cutter) => end(cutter),
-        State::Merger(_) => MISUSED,
-    };
-    handle.put(state, alloc);
-    status
+    call_on!(handle, alloc, Extractor, MISUSED, |cutter| end(cutter))
 }
 
 /// Goes on as far as the bytes allow.
@@ -198,15 +168,13 @@ pub extern "C" fn gq_extractor_next(
     ensures call { Calls Extractor handle.old.state handle.new.state result (λ c later. Advances c later picture.old picture.new result) }
     ensures none { ((c : Cutting) → handle.old.state ≡ Some (Extractor c) → ⊥) → picture.new ≡ picture.old }
 {
-    let Some(mut state) = handle.take(alloc) else {
-        return MISUSED;
-    };
-    let status = match &mut *state {
-        State::Extractor(cutter) => advance(cutter, picture),
-        State::Merger(_) => MISUSED,
-    };
-    handle.put(state, alloc);
-    status
+    call_on!(
+        handle,
+        alloc,
+        Extractor,
+        MISUSED,
+        |cutter| advance(cutter, picture)
+    )
 }
 
 /// Copies the picture that waits to the front of the room, and gives it up.
@@ -215,15 +183,13 @@ pub extern "C" fn gq_extractor_take(alloc: Global, handle: &mut Handle, into: &m
     ensures call { Calls Extractor handle.old.state handle.new.state result (λ c later. TakesPicture c later into.old into.new result) }
     ensures none { ((c : Cutting) → handle.old.state ≡ Some (Extractor c) → ⊥) → into.new ≡ into.old }
 {
-    let Some(mut state) = handle.take(alloc) else {
-        return MISUSED;
-    };
-    let status = match &mut *state {
-        State::Extractor(cutter) => take(cutter, into),
-        State::Merger(_) => MISUSED,
-    };
-    handle.put(state, alloc);
-    status
+    call_on!(
+        handle,
+        alloc,
+        Extractor,
+        MISUSED,
+        |cutter| take(cutter, into)
+    )
 }
 
 /// The line that tells why it is stopped, and how many bytes it has.
@@ -233,15 +199,13 @@ pub extern "C" fn gq_extractor_line(alloc: Global, handle: &mut Handle, into: &m
     ensures line { (c : Cutting) → handle.old.state ≡ Some (Extractor c) → TellsLine (stop_in c.end) into.old into.new result }
     ensures none { ((c : Cutting) → handle.old.state ≡ Some (Extractor c) → ⊥) → TellsNone into.old into.new result }
 {
-    let Some(state) = handle.take(alloc) else {
-        return 0;
-    };
-    let len = match &*state {
-        State::Extractor(cutter) => line(alloc, cutter, into),
-        State::Merger(_) => 0,
-    };
-    handle.put(state, alloc);
-    len
+    call_on!(
+        handle,
+        alloc,
+        Extractor,
+        0,
+        |cutter| line(alloc, cutter, into)
+    )
 }
 
 /// Gives back all that an extractor holds. The handle is closed then.

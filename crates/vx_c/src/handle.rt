@@ -99,3 +99,39 @@ fn both_go(handle: &Handle, state: &State) {
     goes(handle);
     goes(state);
 }
+
+/// Makes a closed handle one of what is made here: a box; or none, where what is asked for can't be. An open one is misused.
+macro_rules! open_with {
+    ($handle:ident, $alloc:ident, $made:expr) => {{
+        if let Some(state) = $handle.take($alloc) {
+            $handle.put(state, $alloc);
+            return MISUSED;
+        }
+        match $made {
+            Ok(Some(state)) => {
+                $handle.put(state, $alloc);
+                DONE
+            }
+            Ok(None) => MISUSED,
+            Err(_) => NO_MEMORY,
+        }
+    }};
+}
+
+/// Does this to what a handle is of, where it is one of this kind; else answers the other.
+macro_rules! call_on {
+    ($handle:ident, $alloc:ident, $kind:ident, $other:expr, |$of:ident| $call:expr) => {{
+        let Some(mut state) = $handle.take($alloc) else {
+            return $other;
+        };
+        let answer = match &mut *state {
+            State::$kind($of) => $call,
+            _ => $other,
+        };
+        $handle.put(state, $alloc);
+        answer
+    }};
+}
+
+pub(crate) use call_on;
+pub(crate) use open_with;

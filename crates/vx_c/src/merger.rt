@@ -1,18 +1,18 @@
 //! A merger, to which bytes are handed in as they come.
-ghost use Rattle.std.specs.Prelude.{◌≡◌, ℕ, Some, None, map, IfOk, IfErr, IfSome, IfNone};
+ghost use Rattle.std.specs.Prelude.{◌≡◌, Some, None, map, IfOk, IfErr, IfSome, IfNone};
 ghost use Rattle.vx_merge.specs.Merging.{AreCorners};
-ghost use Rattle.vx_push.specs.Comes.{with_end};
-ghost use Rattle.vx_push.specs.Mixing.{Mixing, with_zeros};
-ghost use Rattle.vx_c.specs.Call.{Calls, TellsLine, TellsNone};
-ghost use Rattle.vx_c.specs.Merger.{corner_of, level_of, IsFresh, Opens, HandsOver, Pushes, Advances, TakesPicture, stop_in};
+ghost use Rattle.vx_push.specs.Comes.{with_end, with_zeros};
+ghost use Rattle.vx_push.specs.Mixing.{Mixing};
+ghost use Rattle.vx_c.specs.Call.{Calls, Opens, TellsLine, TellsNone};
+ghost use Rattle.vx_c.specs.Merger.{corner_of, level_of, IsFresh, HandsOver, Pushes, Advances, TakesPicture, stop_in};
 ghost use Rattle.vx_c.specs.declared.state.State.TheVariants.{Merger};
 
 use crate::corners::{GqCorner, corners_in};
-use crate::handle::Handle;
+use crate::handle::{Handle, call_on, open_with};
 use crate::line::tell;
 use crate::picture::{GqPicture, told};
 use crate::state::State;
-use crate::status::{DONE, ENDED, MISUSED, NO_MEMORY, NO_ROOM, WAITS, status_of};
+use crate::status::{DONE, ENDED, MISUSED, NO_MEMORY, WAITS, status_of, took};
 use std::alloc::{AllocError, Global};
 use vx_push::{Mixed, Mixer, NoSource, are_corners};
 
@@ -91,10 +91,7 @@ fn take(mixer: &mut Mixer, into: &mut [u8]) -> u8
     if mixer.picture().is_none() {
         return MISUSED;
     }
-    match mixer.take(into) {
-        Some(_) => DONE,
-        None => NO_ROOM,
-    }
+    took(mixer.take(into))
 }
 
 /// The line of what stopped it, and how many bytes it has; 0 where it isn't stopped.
@@ -115,20 +112,10 @@ pub extern "C" fn gq_merger_open(
     corners: &[GqCorner],
     level: u8,
 ) -> u8
-    ensures { Opens handle.old.state handle.new.state (map corner_of corners.now) (level_of level) result }
+    ensures { Opens Merger handle.old.state handle.new.state (AreCorners (map corner_of corners.now))
+        (λ m. IsFresh m (map corner_of corners.now) (level_of level)) result }
 {
-    if let Some(state) = handle.take(alloc) {
-        handle.put(state, alloc);
-        return MISUSED;
-    }
-    match opened(alloc, corners, level) {
-        Ok(Some(state)) => {
-            handle.put(state, alloc);
-            DONE
-        }
-        Ok(None) => MISUSED,
-        Err(_) => NO_MEMORY,
-    }
+    open_with!(handle, alloc, opened(alloc, corners, level))
 }
 
 /// Hands in the next bytes of a source.
@@ -144,15 +131,13 @@ pub extern "C" fn gq_merger_push(
     ensures none { ((m : Mixing) → handle.old.state ≡ Some (Merger m) → ⊥) → taken.new ≡ 0 }
 {
     *taken = 0;
-    let Some(mut state) = handle.take(alloc) else {
-        return MISUSED;
-    };
-    let status = match &mut *state {
-        State::Merger(mixer) => push(mixer, source, bytes, taken),
-        State::Extractor(_) => MISUSED,
-    };
-    handle.put(state, alloc);
-    status
+    call_on!(
+        handle,
+        alloc,
+        Merger,
+        MISUSED,
+        |mixer| push(mixer, source, bytes, taken)
+    )
 }
 
 /// The last unit that was handed in of a source is whole.
@@ -160,15 +145,13 @@ pub extern "C" fn gq_merger_push(
 pub extern "C" fn gq_merger_flush(alloc: Global, handle: &mut Handle, source: usize) -> u8
     ensures { Calls Merger handle.old.state handle.new.state result (λ m later. HandsOver m later source with_zeros result) }
 {
-    let Some(mut state) = handle.take(alloc) else {
-        return MISUSED;
-    };
-    let status = match &mut *state {
-        State::Merger(mixer) => handed_in(mixer.flush(source)),
-        State::Extractor(_) => MISUSED,
-    };
-    handle.put(state, alloc);
-    status
+    call_on!(
+        handle,
+        alloc,
+        Merger,
+        MISUSED,
+        |mixer| handed_in(mixer.flush(source))
+    )
 }
 
 /// There are no more bytes of a source.
@@ -176,15 +159,13 @@ pub extern "C" fn gq_merger_flush(alloc: Global, handle: &mut Handle, source: us
 pub extern "C" fn gq_merger_end(alloc: Global, handle: &mut Handle, source: usize) -> u8
     ensures { Calls Merger handle.old.state handle.new.state result (λ m later. HandsOver m later source (λ i h. with_end h) result) }
 {
-    let Some(mut state) = handle.take(alloc) else {
-        return MISUSED;
-    };
-    let status = match &mut *state {
-        State::Merger(mixer) => handed_in(mixer.end(source)),
-        State::Extractor(_) => MISUSED,
-    };
-    handle.put(state, alloc);
-    status
+    call_on!(
+        handle,
+        alloc,
+        Merger,
+        MISUSED,
+        |mixer| handed_in(mixer.end(source))
+    )
 }
 
 /// Goes on as far as the bytes allow.
@@ -199,15 +180,13 @@ pub extern "C" fn gq_merger_next(
         (λ m later. Advances m later source.old source.new picture.old picture.new result) }
     ensures none { ((m : Mixing) → handle.old.state ≡ Some (Merger m) → ⊥) → (source.new ≡ source.old) × (picture.new ≡ picture.old) }
 {
-    let Some(mut state) = handle.take(alloc) else {
-        return MISUSED;
-    };
-    let status = match &mut *state {
-        State::Merger(mixer) => advance(mixer, source, picture),
-        State::Extractor(_) => MISUSED,
-    };
-    handle.put(state, alloc);
-    status
+    call_on!(
+        handle,
+        alloc,
+        Merger,
+        MISUSED,
+        |mixer| advance(mixer, source, picture)
+    )
 }
 
 /// Copies the picture that waits to the front of the room, and gives it up.
@@ -216,15 +195,7 @@ pub extern "C" fn gq_merger_take(alloc: Global, handle: &mut Handle, into: &mut 
     ensures call { Calls Merger handle.old.state handle.new.state result (λ m later. TakesPicture m later into.old into.new result) }
     ensures none { ((m : Mixing) → handle.old.state ≡ Some (Merger m) → ⊥) → into.new ≡ into.old }
 {
-    let Some(mut state) = handle.take(alloc) else {
-        return MISUSED;
-    };
-    let status = match &mut *state {
-        State::Merger(mixer) => take(mixer, into),
-        State::Extractor(_) => MISUSED,
-    };
-    handle.put(state, alloc);
-    status
+    call_on!(handle, alloc, Merger, MISUSED, |mixer| take(mixer, into))
 }
 
 /// The line that tells why it is stopped, and how many bytes it has.
@@ -234,15 +205,7 @@ pub extern "C" fn gq_merger_line(alloc: Global, handle: &mut Handle, into: &mut 
     ensures line { (m : Mixing) → handle.old.state ≡ Some (Merger m) → TellsLine (stop_in m.end) into.old into.new result }
     ensures none { ((m : Mixing) → handle.old.state ≡ Some (Merger m) → ⊥) → TellsNone into.old into.new result }
 {
-    let Some(state) = handle.take(alloc) else {
-        return 0;
-    };
-    let len = match &*state {
-        State::Merger(mixer) => line(alloc, mixer, into),
-        State::Extractor(_) => 0,
-    };
-    handle.put(state, alloc);
-    len
+    call_on!(handle, alloc, Merger, 0, |mixer| line(alloc, mixer, into))
 }
 
 /// Gives back all that a merger holds, or an extractor. The handle is closed then.

@@ -1,5 +1,5 @@
 //! What an export answers.
-ghost use Rattle.std.specs.Prelude.{◌≡◌};
+ghost use Rattle.std.specs.Prelude.{◌≡◌, OnSome, IfNone};
 ghost use Rattle.vx_run.specs.Conclusion as conclusion;
 
 use vx_run::Stop;
@@ -34,5 +34,16 @@ pub(crate) fn status_of(stop: Stop) -> u8
         Stop::Refused { .. } | Stop::Mismatched { .. } => REFUSED,
         Stop::ReadFault { .. } | Stop::WriteFault => NO_ROOM,
         Stop::NoMemory => NO_MEMORY,
+    }
+}
+
+/// What is answered where a picture that waits was to be copied, by how many bytes were: none where the room doesn't suffice.
+pub(crate) fn took(taken: Option<usize>) -> u8
+    ensures done { OnSome taken (result ≡ DONE) }
+    ensures short { IfNone taken (result ≡ NO_ROOM) }
+{
+    match taken {
+        Some(_) => DONE,
+        None => NO_ROOM,
     }
 }

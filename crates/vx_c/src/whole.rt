@@ -1,9 +1,9 @@
 //! The program's words over streams in memory.
-ghost use Rattle.std.specs.Prelude.{◌≡◌, ◌≢◌, ◌≤◌, ◌⊎◌, ◌↔◌, [], length, IfOk, IfSome, IfNone};
+ghost use Rattle.std.specs.Prelude.{◌≡◌, ◌≢◌, ◌≤◌, ◌⊎◌, ◌↔◌, [], length, take, IfOk, IfSome, IfNone};
 ghost use Rattle.std.specs.List.{sum};
 ghost use Rattle.vx_io.specs.Memory.{fresh_plan};
 ghost use Rattle.vx_run.specs.Grammar.{IsUnderstood, NamesFiles};
-ghost use Rattle.vx_c.specs.InMemory.{IsMisused};
+ghost use Rattle.vx_c.specs.InMemory.{IsMisused, TellsWhy};
 ghost use Rattle.vx_c.specs.InMemory as caller;
 
 use crate::memory::{put, sources_in, words_in};
@@ -40,6 +40,7 @@ fn run_in_memory(
     ensures words { IfOk result (λ all. IfSome all (λ ran. (ran.status ≡ 2) ↔ ¬ IsUnderstood (caller.words_in words.now))) }
     ensures files { IfOk result (λ all. IfSome all (λ ran. NamesFiles (caller.words_in words.now) (length lengths.now))) }
     ensures lengths { IfOk result (λ all. IfSome all (λ ran. sum lengths.now ≡ length bytes.now)) }
+    ensures tells { IfOk result (λ all. IfSome all (λ ran. TellsWhy ran.status ran.err.taken)) }
     ensures none { IfOk result (λ all. IfNone all (IsMisused words.now bytes.now lengths.now)) }
 {
     let Some(words) = words_in(alloc, words)? else {
@@ -62,8 +63,10 @@ fn run_in_memory(
     Ok(Some(Ran { status, out, err }))
 }
 
-/// Does what the words ask for, as the program does, over streams in memory in place of files. How it answers and what it writes is
-/// what `run` says of them; no clause tells it again, since a stream's bytes are known to no clause behind its box.
+/// Does what the words ask for, as the program does, over streams in memory in place of files. What is told is the line of the status.
+/// What is written is what `run` says of the words and the streams; no clause tells that again, since a stream's bytes are known to no
+/// clause behind its box.
+#[tactic(auto, using(crate::proofs::Telling::why_misused, crate::proofs::Telling::why_no_memory))]
 #[unsafe(no_mangle)]
 pub extern "C" fn gq_run(
     alloc: Global,
@@ -81,6 +84,7 @@ pub extern "C" fn gq_run(
     ensures files { ¬ NamesFiles (caller.words_in words.now) (length lengths.now) → (result ≡ MISUSED) ⊎ (result ≡ NO_MEMORY) }
     ensures lengths { sum lengths.now ≢ length bytes.now → (result ≡ MISUSED) ⊎ (result ≡ NO_MEMORY) }
     ensures misused { result ≡ MISUSED → IsMisused words.now bytes.now lengths.now }
+    ensures tells { TellsWhy result (take told.new err.new) }
 {
     *written = 0;
     *told = 0;

@@ -1,5 +1,5 @@
 -- An intake: what it came to, by what its feed came to in the bytes that it was given.
-use Rattle.std.proofs.Common.{◌≡◌, ℕ, ◌<◌, ◌≤◌, List, [], ◌∷◌, ◌++◌, ◌∙◌, Option, Some, None, Bool, true, false, length, take, drop, inl, inr, ◌⊎◌, refl, ap, sym, subst, arith, append_assoc, append-nil, ⊎_elim}
+use Rattle.std.proofs.Common.{◌≡◌, ℕ, ◌<◌, ◌≤◌, List, [], ◌∷◌, ◌++◌, ◌∙◌, Option, Some, None, Bool, true, false, take, drop, inl, inr, ◌⊎◌, refl, ap, sym, subst, arith, append_assoc, append-nil, ⊎_elim}
 use Rattle.std.proofs.Math.Seq.{take_all}
 use Rattle.std.proofs.lemmas.List.{take-append-drop}
 use Rattle.vx_annexb.specs.ByteStream.{source_limit, UnitPlace}
@@ -8,12 +8,11 @@ use Rattle.vx_annexb.specs.Reading.{HasRead}
 use Rattle.vx_annexb.specs.declared.unit_reader.Closed.{Closed}
 use Rattle.vx_annexb.specs.declared.unit_reader.Closed.TheVariants as closed
 use Rattle.vx_bits.specs.declared.refusal.Refusal.{Refusal}
-use Rattle.vx_pic.specs.Readings.{Picture, pictures}
+use Rattle.vx_pic.specs.Readings.{Picture}
 use Rattle.vx_pic.specs.Rules.{Readers}
 use Rattle.vx_pic.specs.Streams.{read_on}
 use Rattle.vx_pic.specs.Bytes.{Ending, ending_by, ArePictures, AreSeenPictures}
 use Rattle.vx_assemble.specs.Feed.{Feeding, HasFed, seen_of}
-use Rattle.vx_assemble.specs.Held.{ShowsLatest, lent_by}
 use Rattle.vx_run.specs.Extract.{BeginsWithPictures}
 use Rattle.vx_run.proofs.Told.{IsGiven, refused_at}
 use Rattle.vx_run.proofs.Taking.{begins_with, all_of_given, refused_behind, follows_front}
@@ -22,7 +21,7 @@ use Rattle.vx_push.specs.Handed.{Handed, nothing, with_more, with_end, zeros, Is
 use Rattle.vx_push.specs.Comes.{HasCome, ComesNext}
 use Rattle.vx_push.specs.declared.intake.State.{State}
 use Rattle.vx_push.specs.declared.intake.State.TheVariants as states
-use Rattle.vx_push.specs.inner.Comes.{Intaking, intaking, zeros_if, Owes, HasTaken, IsGoing, IsReady, IsLeftAs, IsStopped, SeeksTo, StepsBehind}
+use Rattle.vx_push.specs.inner.Comes.{intaking, zeros_if, Owes, HasTaken, IsGoing, IsReady, IsLeftAs, IsStopped, SeeksTo, StepsBehind}
 
 -- ---- what is owed
 
@@ -62,8 +61,8 @@ owes_end (Some closed.TooLong) flushed ended owed owes = tt
 owes_end (Some closed.Failed) flushed ended owed owes = tt
 
 -- zeros, or the end, were handed in behind
-pub with_zeros : (R : Readers) (f : Feeding) (s s' : State) (h : Handed) (ps : List Picture) → IsGoing R (intaking f s false false) h ps → IsGoing R (intaking f s' true false) (with_more h zeros) ps
-with_zeros R f s s' h ps g = record {
+pub with_the_zeros : (R : Readers) (f : Feeding) (s s' : State) (h : Handed) (ps : List Picture) → IsGoing R (intaking f s false false) h ps → IsGoing R (intaking f s' true false) (with_more h zeros) ps
+with_the_zeros R f s s' h ps g = record {
   given = g.given;
   owed = g.owed ++ zeros;
   taken = g.taken;
@@ -282,7 +281,7 @@ module _ (R : Readers) (f : Feeding) (s0 : State) (flushed ended : Bool) (h : Ha
         → ((g : List ℕ) → HasTaken R f g ps → SeeksTo R (g ++ take k zeros) ps f1 s) → ComesNext R (intaking f1 s flushed ended) (with_more h zeros) ps s
     flushes k left unended whole to =
         let w = waiting R f s0 flushed ended h ps is ready come in
-        let g = with_zeros R f states.Waits states.Waits h ps w.3 in
+        let g = with_the_zeros R f states.Waits states.Waits h ps w.3 in
         let behind = steps_zeros R f f1 states.Waits s false (with_more h zeros) ps g k w.2 unended whole (to g.given g.taken) in
         rw (w.0, w.1) (rests R f1 s false false (with_more h zeros) ps (λ e. (refl, refl, open_as f1 s left e)) behind)
 
@@ -319,7 +318,7 @@ pub flushed_later : (R : Readers) (f : Feeding) (s : State) (flushed ended : Boo
 flushed_later R f states.Waits flushed ended h ps is none open_ come = absurd (cc)
 flushed_later R f states.Picture flushed ended h ps is none open_ come =
     let g = subst (λ (b : Bool). IsGoing R (intaking f states.Picture false b) h ps) open_ (subst (λ (a : Bool). IsGoing R (intaking f states.Picture a ended) h ps) none come.fed) in
-    let later = with_zeros R f states.Picture states.Picture h ps g in
+    let later = with_the_zeros R f states.Picture states.Picture h ps g in
     record {
       told = (first_of_going R f states.Picture true false (with_more h zeros) ps later, come.told.1);
       lends = come.lends;

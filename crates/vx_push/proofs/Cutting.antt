@@ -1,25 +1,20 @@
 -- A cutter: what it answers, by what its intake came to and its extractor answered.
-use Rattle.std.proofs.Common.{◌≡◌, ◌⊎◌, inl, inr, ⊎_elim, ℕ, ◌+◌, ◌-◌, ◌<◌, ◌≤◌, Bool, true, false, cond, List, [], ◌∷◌, ◌++◌, ◌∙◌, Option, Some, None, Result, Ok, Err, length, map, take, nat_le, refl, ap, ap₂, sym, subst, arith, append_assoc, append-nil}
-use Rattle.std.specs.Prelude.{option_map}
+use Rattle.std.proofs.Common.{◌≡◌, ◌⊎◌, ⊎_elim, ℕ, ◌+◌, ◌-◌, ◌<◌, ◌≤◌, Bool, true, false, cond, List, [], ◌∷◌, ◌++◌, ◌∙◌, Option, Some, None, Ok, Err, length, map, nat_le, refl, ap, ap₂, sym, subst, arith, append_assoc}
 use Rattle.std.specs.List.{AllByRecursion}
-use Rattle.vx_bits.specs.declared.refusal.Refusal.{Refusal}
 use Rattle.vx_bits.specs.declared.refusal.Refusal.TheVariants.{Extract}
 use Rattle.vx_bits.specs.declared.rules.TheConstants.{NO_PICTURE}
-use Rattle.vx_annexb.specs.Held.{is_all}
-use Rattle.vx_annexb.specs.Laws.{written}
 use Rattle.vx_pic.specs.declared.kind.Kind.{Kind}
 use Rattle.vx_pic.specs.Readings.{Picture, pictures}
 use Rattle.vx_pic.specs.Rules.{Readers}
 use Rattle.vx_pic.specs.H266.{AreOfH266}
 use Rattle.vx_pic.specs.Streams.{StreamReading, pictures_of}
-use Rattle.vx_pic.specs.Bytes.{Ending, units_at}
+use Rattle.vx_pic.specs.Bytes.{units_at}
 use Rattle.vx_pic.specs.Parts.{Parts, parts_of}
 use Rattle.vx_pic.specs.Sublayers.{at_most}
-use Rattle.vx_pic.specs.Written.{Plan, units_of}
+use Rattle.vx_pic.specs.Written.{Plan}
 use Rattle.vx_run.specs.declared.stop.Place.TheVariants as places
-use Rattle.vx_assemble.specs.Held.{ShowsLatest, lent_by}
+use Rattle.vx_assemble.specs.Held.{lent_by}
 use Rattle.vx_assemble.specs.Feed.{seen_of}
-use Rattle.vx_assemble.proofs.InMemory.{few_seen}
 use Rattle.vx_sps.specs.Subpictures.{subpics_of}
 use Rattle.vx_write.specs.declared.fault.WriteError.{WriteError}
 use Rattle.vx_write.specs.declared.fault.WriteError.TheVariants as errors
@@ -27,148 +22,49 @@ use Rattle.vx_extract.specs.Extracting.{Extracting, Stands, SameTask, HasSlice, 
 use Rattle.vx_extract.specs.Rules.{is_kept, refusal_of}
 use Rattle.vx_extract.specs.Written.{AreExtracted, IsExtracted}
 use Rattle.vx_run.specs.declared.extract.Task.{Task}
-use Rattle.vx_run.specs.declared.stop.Stop.{Stop}
 use Rattle.vx_run.specs.declared.stop.Stop.TheVariants.{NotUnderstood, Refused, Mismatched, ReadFault, WriteFault, NoMemory}
-use Rattle.vx_run.specs.Extract.{BreakNoRule, BreaksBehind, BeginsWithPictures, IsExtractable}
+use Rattle.vx_run.specs.Extract.{BreakNoRule, BeginsWithPictures, IsExtractable}
 use Rattle.vx_run.specs.inner.Extracting.{HaveSlices}
 use Rattle.vx_run.proofs.Extracting.{no_pictures, shown_is}
-use Rattle.vx_run.proofs.Lined.{all_length, few_pictures}
 use Rattle.vx_run.proofs.ReadAgain.{has_subpicture}
 use Rattle.vx_push.specs.declared.intake.State.{State}
 use Rattle.vx_push.specs.declared.intake.State.TheVariants as states
 use Rattle.vx_push.specs.declared.cutter.Cut.{Cut}
 use Rattle.vx_push.specs.declared.cutter.Cut.TheVariants.{Picture as ToPicture, Waits as ToWait, Ended as ToEnd, Stopped as ToStop}
-use Rattle.vx_push.specs.Handed.{with_more, with_end, zeros, nothing, Handed, OfEachStream}
+use Rattle.vx_push.specs.Handed.{nothing, Handed, OfEachStream}
 use Rattle.vx_push.specs.Comes.{Intaking, HasCome, ComesTo, ComesNext, IsFedBy}
-use Rattle.vx_push.specs.Cutting.{Cutting, IsRefusedCut, by_ending_told, by_picture, without, HasEndedBy, IsBehindPictures, HasComeBehind, HoldsPicture, HasCut, IsAwaited, Answers, flushed_by, ended_by}
-use Rattle.vx_push.specs.inner.Comes.{HasTaken, IsGoing}
-use Rattle.vx_push.specs.inner.Cutting.{EndsBehind, HaltsBy, stop_by, CutsKept, Cuts, end_by, StepsTo, StillCuts, units_by}
-use Rattle.vx_push.proofs.Coming.{of_later}
-use Rattle.vx_push.proofs.Few.{few_units}
-
--- ---- its intake
-
--- where it holds a picture, that is the latest that it came to; else it came to those that were passed
-holds_one : (R : Readers) (i : Intaking) (h : Handed) (ps : List Picture) → i.state ≡ states.Picture → (c : HasComeBehind R i h ps) → (p : Picture) × HasCome R i h (p ∷ ps)
-holds_one R i h ps is c =
-    let one : IsBehindPictures states.Picture ps c.seen = subst (λ (s : State). IsBehindPictures s ps c.seen) is c.behind in
-    (one.0, subst (λ (l : List Picture). HasCome R i h l) one.1 c.come)
-
-behind_at : (s : State) (ps seen : List Picture) → (s ≡ states.Picture → ⊥) → IsBehindPictures s ps seen → seen ≡ ps
-behind_at states.Waits ps seen other is = is
-behind_at states.Picture ps seen other is = absurd (other refl)
-behind_at states.Ended ps seen other is = is
-behind_at (states.Refused r n) ps seen other is = is
-behind_at states.NoMemory ps seen other is = is
-
-holds_none : (R : Readers) (i : Intaking) (h : Handed) (ps : List Picture) → (i.state ≡ states.Picture → ⊥) → HasComeBehind R i h ps → HasCome R i h ps
-holds_none R i h ps other c = subst (λ (l : List Picture). HasCome R i h l) (behind_at i.state ps c.seen other c.behind) c.come
-
--- it came to what is next
-come_next : (R : Readers) (i : Intaking) (h : Handed) (ps : List Picture) (s : State) → i.state ≡ s → ComesNext R i h ps s → HasComeBehind R i h ps
-come_next R i h ps states.Waits is next = record { seen = ps; come = next; behind = subst (λ (x : State). IsBehindPictures x ps ps) (sym is) refl }
-come_next R i h ps states.Picture is next = record { seen = next.0 ∷ ps; come = next.1; behind = subst (λ (x : State). IsBehindPictures x ps (next.0 ∷ ps)) (sym is) (next.0, refl) }
-come_next R i h ps states.Ended is next = record { seen = ps; come = next; behind = subst (λ (x : State). IsBehindPictures x ps ps) (sym is) refl }
-come_next R i h ps (states.Refused r n) is next = record { seen = ps; come = next; behind = subst (λ (x : State). IsBehindPictures x ps ps) (sym is) refl }
-come_next R i h ps states.NoMemory is next = record { seen = ps; come = next; behind = subst (λ (x : State). IsBehindPictures x ps ps) (sym is) refl }
-
--- no more pictures than a count can tell
-few_going : (R : Readers) (i : Intaking) (h : Handed) (ps : List Picture) → IsGoing R i h ps → length ps ≤ 1099511627776
-few_going R i h ps going =
-    let t = going.taken in
-    let seen = seen_of going.given in
-    omega (
-      arith,
-      ap (λ (l : List Picture). length l) t.done,
-      few_pictures t.before,
-      all_length R seen t.places t.before t.fed.readings,
-      few_units seen (is_all i.feed.reader.splitter) 0 t.places t.fed.read.stands.given,
-      few_seen going.given,
-    )
-
-pub few_held : (R : Readers) (i : Intaking) (h : Handed) (ps : List Picture) → i.state ≡ states.Picture → HasComeBehind R i h ps → length ps + 1 ≤ 1099511627776
-few_held R i h ps is c =
-    let one = holds_one R i h ps is c in
-    let going : IsGoing R i h (one.0 ∷ ps) = subst (λ (s : State). IsFedBy R i h (one.0 ∷ ps) s) is one.1.fed in
-    omega (arith, few_going R i h (one.0 ∷ ps) going)
+use Rattle.vx_push.specs.Cutting.{Cutting, IsRefusedCut, by_ending_told, by_picture, without, HasEndedBy, HoldsPicture, HasCut, Answers}
+use Rattle.vx_push.specs.inner.Comes.{IsGoing, IsMore}
+use Rattle.vx_push.specs.inner.Cutting.{HaltsBy, stop_by, CutsKept, Cuts, end_by, StepsTo, StillCuts, units_by}
+use Rattle.vx_push.proofs.Handing.{carried, one_held, none_held, not_picture}
 
 -- ---- what is handed in
 
--- what holds of the streams that begin so holds of those of them that have no more bytes
-of_end : (R : Readers) (h : Handed) (P : List Picture → Option Ending → Type 0) → OfEachStream R h P → OfEachStream R (with_end h) P
-of_end R h P each b qs ending o are = each b qs ending (record { rest = o.rest; front = o.front; whole = λ all. o.whole refl }) are
+ended_on : (R : Readers) (t : Task) (h more : Handed) (ps : List Picture) (end : Cut) → IsMore h more → HasEndedBy R t h ps end → HasEndedBy R t more ps end
+ended_on R t h more ps ToPicture is by = absurd by
+ended_on R t h more ps ToWait is by = absurd by
+ended_on R t h more ps ToEnd is by = carried R h more is (λ qs ending. (qs ≡ ps) × IsExtractable t qs ending) by
+ended_on R t h more ps (ToStop (Refused r place)) is by = carried R h more is (λ qs ending. IsRefusedCut t qs ending ps r place) by
+ended_on R t h more ps (ToStop NoMemory) is by = carried R h more is (λ qs ending. BeginsWithPictures qs ps) by
+ended_on R t h more ps (ToStop NotUnderstood) is by = absurd by
+ended_on R t h more ps (ToStop (Mismatched m n)) is by = absurd by
+ended_on R t h more ps (ToStop (ReadFault k)) is by = absurd by
+ended_on R t h more ps (ToStop WriteFault) is by = absurd by
 
-abbrev Carries : Readers → Handed → Handed → Type 1
-Carries R h h' = (P : List Picture → Option Ending → Type 0) → OfEachStream R h P → OfEachStream R h' P
-
-ended_on : (R : Readers) (t : Task) (h h' : Handed) (ps : List Picture) (end : Cut) → Carries R h h' → HasEndedBy R t h ps end → HasEndedBy R t h' ps end
-ended_on R t h h' ps ToPicture carries by = absurd by
-ended_on R t h h' ps ToWait carries by = absurd by
-ended_on R t h h' ps ToEnd carries by = carries (λ qs ending. (qs ≡ ps) × IsExtractable t qs ending) by
-ended_on R t h h' ps (ToStop (Refused r place)) carries by = carries (λ qs ending. IsRefusedCut t qs ending ps r place) by
-ended_on R t h h' ps (ToStop NoMemory) carries by = carries (λ qs ending. BeginsWithPictures qs ps) by
-ended_on R t h h' ps (ToStop NotUnderstood) carries by = absurd by
-ended_on R t h h' ps (ToStop (Mismatched m n)) carries by = absurd by
-ended_on R t h h' ps (ToStop (ReadFault k)) carries by = absurd by
-ended_on R t h h' ps (ToStop WriteFault) carries by = absurd by
-
-handed : (R : Readers) (t : Task) (c : Cutting) (i : Intaking) (h h' : Handed) (ps : List Picture) (done : List Plan) → HasCut R t c h ps done → HasComeBehind R i h' ps → Carries R h h'
-    → HasCut R t (record c { intake = i }) h' ps done
-handed R t c i h h' ps done cut come carries = record {
+pub cut_handed : (R : Readers) (t : Task) (c : Cutting) (i : Intaking) (h more : Handed) (ps : List Picture) (done : List Plan) → HasCut R t c h ps done → IsMore h more × ComesNext R i more ps i.state
+    → HasCut R t (record c { intake = i }) more ps done
+cut_handed R t c i h more ps done cut takes = record {
   target = cut.target;
   level = cut.level;
   tid = cut.tid;
-  come = come;
+  come = takes.1;
   count = cut.count;
   rules = cut.rules;
   plans = cut.plans;
   stands = cut.stands;
   holds = λ kind is. let one = cut.holds kind is in (one.0, one.1, one.2, record { bytes = one.3.bytes; kind = one.3.kind });
-  ended = λ end is. ended_on R t h h' ps end carries (cut.ended end is);
+  ended = λ end is. ended_on R t h more ps end takes.0 (cut.ended end is);
 }
-
-all_waiting : (R : Readers) (i : Intaking) (h : Handed) (ps : List Picture) → i.state ≡ states.Waits → HasCome R i h ps → h.all ≡ false
-all_waiting R i h ps is come = (subst (λ (s : State). ComesTo R h ps s) is come.told).2
-
-all_holding : (R : Readers) (i : Intaking) (h : Handed) (ps : List Picture) → i.state ≡ states.Picture → i.ended ≡ false → HasCome R i h ps → h.all ≡ false
-all_holding R i h ps is open_ come =
-    let going : IsGoing R i h ps = subst (λ (s : State). IsFedBy R i h ps s) is come.fed in
-    going.all ∙ open_
-
-waits_only : (s : State) → s ≡ states.Waits → s ≡ states.Picture → ⊥
-waits_only s waits holds = let e = waits in let f = holds in absurd (cc)
-
-module _ (R : Readers) (t : Task) (c : Cutting) (i : Intaking) (h : Handed) (ps : List Picture) (done : List Plan) (cut : HasCut R t c h ps done) where
-  -- more, where it waits
-  pub hands_more : (piece : List ℕ) → c.intake.state ≡ states.Waits → ((qs : List Picture) → HasCome R c.intake h qs → ComesNext R i (with_more h piece) qs i.state)
-      → HasCut R t (record c { intake = i }) (with_more h piece) ps done
-  hands_more piece waits next =
-      let come = holds_none R c.intake h ps (waits_only c.intake.state waits) cut.come in
-      handed R t c i h (with_more h piece) ps done cut (come_next R i (with_more h piece) ps i.state refl (next ps come)) (λ P. of_later R h piece P (all_waiting R c.intake h ps waits come))
-
-  -- or behind a picture
-  pub hands_more_behind : (piece : List ℕ) → c.intake.state ≡ states.Picture → i.state ≡ states.Picture → c.intake.ended ≡ false
-      → ((qs : List Picture) → HasCome R c.intake h qs → HasCome R i (with_more h piece) qs) → HasCut R t (record c { intake = i }) (with_more h piece) ps done
-  hands_more_behind piece holds still open_ later =
-      let one = holds_one R c.intake h ps holds cut.come in
-      handed R t c i h (with_more h piece) ps done cut (come_next R i (with_more h piece) ps states.Picture still (one.0, later (one.0 ∷ ps) one.1))
-      (λ P. of_later R h piece P (all_holding R c.intake h (one.0 ∷ ps) holds open_ one.1))
-
-  -- the end
-  pub hands_end : c.intake.state ≡ states.Waits → ((qs : List Picture) → HasCome R c.intake h qs → ComesNext R i (with_end h) qs i.state) → HasCut R t (record c { intake = i }) (with_end h) ps done
-  hands_end waits next =
-      let come = holds_none R c.intake h ps (waits_only c.intake.state waits) cut.come in
-      handed R t c i h (with_end h) ps done cut (come_next R i (with_end h) ps i.state refl (next ps come)) (λ P. of_end R h P)
-
-  pub hands_end_behind : c.intake.state ≡ states.Picture → i.state ≡ states.Picture → ((qs : List Picture) → HasCome R c.intake h qs → HasCome R i (with_end h) qs)
-      → HasCut R t (record c { intake = i }) (with_end h) ps done
-  hands_end_behind holds still later =
-      let one = holds_one R c.intake h ps holds cut.come in
-      handed R t c i h (with_end h) ps done cut (come_next R i (with_end h) ps states.Picture still (one.0, later (one.0 ∷ ps) one.1)) (λ P. of_end R h P)
-
-  -- nothing
-  pub hands_none : i ≡ c.intake → HasCut R t (record c { intake = i }) h ps done
-  hands_none same = handed R t c i h h ps done cut (subst (λ (x : Intaking). HasComeBehind R x h ps) (sym same) cut.come) (λ P each. each)
 
 -- ---- what it comes to
 
@@ -198,14 +94,14 @@ ends R t c h ps done end cut by = (
 pub halts : (R : Readers) (t : Task) (c : Cutting) (h : Handed) (ps : List Picture) (done : List Plan) (cut : HasCut R t c h ps done) (s : State) (answer : Cut) → c.intake.state ≡ s → HaltsBy s c.pictures answer
     → StepsTo R t c h ps done (Err answer)
 halts R t c h ps done cut states.Waits answer is by =
-    let come = holds_none R c.intake h ps (waits_only c.intake.state is) cut.come in
+    let come = none_held R c.intake h ps (not_picture c.intake.state is) cut.come in
     let told = subst (λ (s : State). ComesTo R h ps s) is come.told in
     rw by (cut, record { seen = told.1; open_ = told.2 })
 halts R t c h ps done cut states.Picture answer is by = absurd by
 halts R t c h ps done cut states.Ended ToPicture is by = absurd by
 halts R t c h ps done cut states.Ended ToWait is by = absurd by
 halts R t c h ps done cut states.Ended ToEnd is by =
-    let come = holds_none R c.intake h ps (λ e. let f = is in absurd (cc)) cut.come in
+    let come = none_held R c.intake h ps (λ e. let f = is in absurd (cc)) cut.come in
     let told = subst (λ (s : State). ComesTo R h ps s) is come.told in
     ends R t c h ps done ToEnd cut (λ b qs ending o are.
     let all = told.0 b qs ending o are in (
@@ -217,18 +113,18 @@ halts R t c h ps done cut states.Ended ToEnd is by =
       },
     ))
 halts R t c h ps done cut states.Ended (ToStop stop) is by =
-    let come = holds_none R c.intake h ps (λ e. let f = is in absurd (cc)) cut.come in
+    let come = none_held R c.intake h ps (λ e. let f = is in absurd (cc)) cut.come in
     let told = subst (λ (s : State). ComesTo R h ps s) is come.told in
     let empty : ps ≡ [] = no_pictures ps (omega (arith, by.0, cut.count)) in
     rw by.1 (ends R t c h ps done (ToStop (Refused (Extract NO_PICTURE) (places.Picture 0))) cut (λ b qs ending o are.
     let all = told.0 b qs ending o are in
     without (all.0 ∙ empty) empty all.1 refl refl))
 halts R t c h ps done cut (states.Refused r n) answer is by =
-    let come = holds_none R c.intake h ps (λ e. let f = is in absurd (cc)) cut.come in
+    let come = none_held R c.intake h ps (λ e. let f = is in absurd (cc)) cut.come in
     let told = subst (λ (s : State). ComesTo R h ps s) is come.told in
     rw by (ends R t c h ps done (ToStop (Refused r _)) cut (λ b qs ending o are. let all = told b qs ending o are in by_ending_told n all.0 all.1 refl))
 halts R t c h ps done cut states.NoMemory answer is by =
-    let come = holds_none R c.intake h ps (λ e. let f = is in absurd (cc)) cut.come in
+    let come = none_held R c.intake h ps (λ e. let f = is in absurd (cc)) cut.come in
     let told = subst (λ (s : State). ComesTo R h ps s) is come.told in
     rw by (ends R t c h ps done (ToStop NoMemory) cut told)
 
@@ -270,7 +166,7 @@ module _ (R : Readers) (t : Task) (c : Cutting) (h : Handed) (ps : List Picture)
   tid_is = same.tid ∙ cut.tid
 
   abbrev one : (p : Picture) × HasCome R c.intake h (p ∷ ps)
-  one = holds_one R c.intake h ps holds cut.come
+  one = one_held R c.intake h ps holds cut.come
 
   abbrev q : Parts
   q = lent_by c.intake.feed.assembler
@@ -331,7 +227,7 @@ module _ (R : Readers) (t : Task) (c : Cutting) (h : Handed) (ps : List Picture)
       target = target_is;
       level = level_is;
       tid = tid_is;
-      come = come_next R i h (one.0 ∷ ps) i.state refl (next (one.0 ∷ ps) one.1);
+      come = next (one.0 ∷ ps) one.1;
       count = omega (arith, more, cut.count);
       rules = (fine, cut.rules);
       plans = plans;
@@ -419,7 +315,7 @@ cut_none R t i x come waits target level tid stands = record {
   target = target;
   level = level;
   tid = tid;
-  come = record { seen = []; come = come; behind = subst (λ (s : State). IsBehindPictures s [] []) (sym waits) refl };
+  come = subst (λ (s : State). ComesNext R i nothing [] s) (sym waits) come;
   count = refl;
   rules = tt;
   plans = tt;
@@ -428,8 +324,8 @@ cut_none R t i x come waits target level tid stands = record {
   ended = λ end is. absurd (cc);
 }
 
-pub cut_taken : (R : Readers) (t : Task) (c : Cutting) (h : Handed) (ps : List Picture) (done : List Plan) → HasCut R t c h ps done → HasCut R t (record c { held = None; cut = [] }) h ps done
-cut_taken R t c h ps done cut = record {
+pub cut_taken : (R : Readers) (t : Task) (c : Cutting) (bytes : List ℕ) (h : Handed) (ps : List Picture) (done : List Plan) → HasCut R t c h ps done → HasCut R t (record c { held = None; cut = bytes }) h ps done
+cut_taken R t c bytes h ps done cut = record {
   target = cut.target;
   level = cut.level;
   tid = cut.tid;
@@ -441,53 +337,3 @@ cut_taken R t c h ps done cut = record {
   holds = λ kind is. absurd (cc);
   ended = cut.ended;
 }
-
--- ---- calls that hand in
-
-waits_or_not : (s : State) → (s ≡ states.Waits) ⊎ (s ≡ states.Waits → ⊥)
-waits_or_not states.Waits = inl refl
-waits_or_not states.Picture = inr (λ e. absurd (cc))
-waits_or_not states.Ended = inr (λ e. absurd (cc))
-waits_or_not (states.Refused r n) = inr (λ e. absurd (cc))
-waits_or_not states.NoMemory = inr (λ e. absurd (cc))
-
-module _ (R : Readers) (t : Task) (c : Cutting) (i : Intaking) (h : Handed) (ps : List Picture) (done : List Plan) (cut : HasCut R t c h ps done) where
-  -- a piece, of which n bytes were taken
-  pub cut_pushed : (n : ℕ) (piece : List ℕ) → (c.intake.state ≡ states.Waits → (qs : List Picture) → HasCome R c.intake h qs → ComesNext R i (with_more h (take n piece)) qs i.state)
-      → ((c.intake.state ≡ states.Waits → ⊥) → (n ≡ 0) × (i ≡ c.intake)) → HasCut R t (record c { intake = i }) (with_more h (take n piece)) ps done
-  cut_pushed n piece next kept = ⊎_elim
-      (λ waits. hands_more R t c i h ps done cut (take n piece) waits (next waits))
-      (λ not_.
-      let k = kept not_ in
-      let nothing_more : h ≡ with_more h [] = ap (λ (l : List ℕ). record { bytes = l; all = h.all }) (sym (append-nil h.bytes)) in
-      rw k.0 (subst (λ (x : Handed). HasCut R t (record c { intake = i }) x ps done) nothing_more (hands_none R t c i h ps done cut k.1)))
-      (waits_or_not c.intake.state)
-
-  -- zeros
-  pub cut_flushed : (s : State) (flushed ended : Bool) → c.intake.state ≡ s → c.intake.flushed ≡ flushed → c.intake.ended ≡ ended
-      → (c.intake.state ≡ states.Waits → (qs : List Picture) → HasCome R c.intake h qs → ComesNext R i (with_more h zeros) qs i.state)
-      → (c.intake.state ≡ states.Picture → c.intake.ended ≡ false → c.intake.flushed ≡ false → (qs : List Picture) → HasCome R c.intake h qs → HasCome R i (with_more h zeros) qs)
-      → (c.intake.state ≡ states.Picture → i ≡ record c.intake { flushed = i.flushed })
-      → (c.intake.flushed ≡ true → i ≡ c.intake) → (c.intake.ended ≡ true → i ≡ c.intake)
-      → ((c.intake.state ≡ states.Waits → ⊥) → (c.intake.state ≡ states.Picture → ⊥) → i ≡ c.intake)
-      → HasCut R t (record c { intake = i }) (flushed_by s flushed ended h) ps done
-  cut_flushed states.Waits fl e is f en next later holds once ended kept = hands_more R t c i h ps done cut zeros is (next is)
-  cut_flushed states.Picture false false is f en next later holds once ended kept =
-      hands_more_behind R t c i h ps done cut zeros is (ap (λ (x : Intaking). x.state) (holds is) ∙ is) en (later is en f)
-  cut_flushed states.Picture false true is f en next later holds once ended kept = hands_none R t c i h ps done cut (ended en)
-  cut_flushed states.Picture true e is f en next later holds once ended kept = hands_none R t c i h ps done cut (once f)
-  cut_flushed states.Ended fl e is f en next later holds once ended kept = hands_none R t c i h ps done cut (kept (λ w. let x = is in absurd (cc)) (λ w. let x = is in absurd (cc)))
-  cut_flushed (states.Refused r n) fl e is f en next later holds once ended kept = hands_none R t c i h ps done cut (kept (λ w. let x = is in absurd (cc)) (λ w. let x = is in absurd (cc)))
-  cut_flushed states.NoMemory fl e is f en next later holds once ended kept = hands_none R t c i h ps done cut (kept (λ w. let x = is in absurd (cc)) (λ w. let x = is in absurd (cc)))
-
-  -- the end
-  pub cut_ended : (s : State) → c.intake.state ≡ s → (c.intake.state ≡ states.Waits → (qs : List Picture) → HasCome R c.intake h qs → ComesNext R i (with_end h) qs i.state)
-      → (c.intake.state ≡ states.Picture → (qs : List Picture) → HasCome R c.intake h qs → HasCome R i (with_end h) qs)
-      → (c.intake.state ≡ states.Picture → i ≡ record c.intake { ended = true })
-      → ((c.intake.state ≡ states.Waits → ⊥) → (c.intake.state ≡ states.Picture → ⊥) → i ≡ c.intake)
-      → HasCut R t (record c { intake = i }) (ended_by s h) ps done
-  cut_ended states.Waits is next later holds kept = hands_end R t c i h ps done cut is (next is)
-  cut_ended states.Picture is next later holds kept = hands_end_behind R t c i h ps done cut is (ap (λ (x : Intaking). x.state) (holds is) ∙ is) (later is)
-  cut_ended states.Ended is next later holds kept = hands_none R t c i h ps done cut (kept (λ w. let x = is in absurd (cc)) (λ w. let x = is in absurd (cc)))
-  cut_ended (states.Refused r n) is next later holds kept = hands_none R t c i h ps done cut (kept (λ w. let x = is in absurd (cc)) (λ w. let x = is in absurd (cc)))
-  cut_ended states.NoMemory is next later holds kept = hands_none R t c i h ps done cut (kept (λ w. let x = is in absurd (cc)) (λ w. let x = is in absurd (cc)))

@@ -2,6 +2,7 @@
 pub mod Coming
 pub mod Cutting
 pub mod Few
+pub mod Handing
 pub mod Merged
 pub mod Mixing
 pub mod Steps

@@ -1,5 +1,5 @@
 -- What the intakes of a mixer have come to, and what it answers by that.
-use Rattle.std.proofs.Common.{◌≡◌, ◌≢◌, ◌⊎◌, ℕ, ◌+◌, ◌<◌, ◌≤◌, Bool, true, false, List, [], ◌∷◌, ◌++◌, ◌∙◌, Option, Some, None, Result, Ok, Err, length, map, take, get_or, slice_get, slice_set, inl, inr, sym, ap, refl, subst, arith, append_assoc, append-nil}
+use Rattle.std.proofs.Common.{◌≡◌, ◌≢◌, ◌⊎◌, ℕ, ◌+◌, ◌<◌, ◌≤◌, Bool, true, false, List, [], ◌∷◌, ◌++◌, ◌∙◌, Option, Some, None, Ok, Err, length, map, take, get_or, slice_get, slice_set, inl, inr, sym, ap, refl, subst, arith}
 use Rattle.std.specs.Prelude.{reverse, option_map}
 use Rattle.std.proofs.lemmas.List.{length-map, length-reverse, length-set}
 use Rattle.std.proofs.lemmas.Option.{slice_get_within, same_Some}
@@ -13,7 +13,7 @@ use Rattle.vx_pic.specs.Parts.{Parts, parts_of}
 use Rattle.vx_pic.specs.Written.{Plan}
 use Rattle.vx_run.specs.declared.stop.Place.{Place}
 use Rattle.vx_run.specs.declared.stop.Place.TheVariants as places
-use Rattle.vx_assemble.specs.Held.{ShowsLatest, lent_by}
+use Rattle.vx_assemble.specs.Held.{lent_by}
 use Rattle.vx_merge.specs.declared.corner.Corner.{Corner}
 use Rattle.vx_merge.specs.declared.ended.Lengths.TheVariants.{AllGo, AllEnded as AllEnd, Differ}
 use Rattle.vx_merge.specs.Ends.{IsLengths}
@@ -28,9 +28,11 @@ use Rattle.vx_push.specs.declared.intake.State.{State}
 use Rattle.vx_push.specs.declared.intake.State.TheVariants.{Waits as AtWait, Picture as AtPicture, Ended as AtEnd, Refused as AtRefusal, NoMemory as AtNoMemory}
 use Rattle.vx_push.specs.declared.mixer.Mixed.{Mixed}
 use Rattle.vx_push.specs.declared.mixer.Mixed.TheVariants.{Picture as ToPicture, Waits as ToWait, Ended as ToEnd, Stopped as ToStop}
-use Rattle.vx_push.specs.Comes.{Intaking, Handed, nothing, with_more, with_end, zeros, IsOpenedBy, ComesTo, HasCome, ComesNext, IsFedBy}
-use Rattle.vx_push.specs.Mixing.{Mixing, AreOpenedBy, AreMergedAsHanded, EndsMerged, IsBehindRounds, HasComeBehind, HasEndedBy, HoldsRound, HasMixed, IsAwaited, Answers, HandsIn, with_zeros, flushed_by, outcome_of, MixedIsMerged}
-use Rattle.vx_push.specs.inner.Mixing.{IsSo, mark_of, AreMarked, HaltsBy, EndsSo, AreSeen, Looks, round_of, MergesHanded, end_by, IsMore, AreMore, AreNew, HasPassed, ArePassing, HavePassed}
+use Rattle.vx_push.specs.Comes.{Intaking, Handed, nothing, with_more, with_end, with_zeros, zeros, IsOpenedBy, ComesTo, HasCome, ComesNext}
+use Rattle.vx_push.specs.Mixing.{Mixing, AreOpenedBy, AreMergedAsHanded, EndsMerged, HasComeBehind, HasEndedBy, HoldsRound, HasMixed, IsAwaited, Answers, HandsIn, outcome_of, MixedIsMerged}
+use Rattle.vx_push.specs.inner.Mixing.{IsSo, mark_of, AreMarked, HaltsBy, EndsSo, AreSeen, Looks, round_of, MergesHanded, end_by, AreMore, AreNew, HasPassed, ArePassing, HavePassed}
+use Rattle.vx_push.specs.inner.Comes.{IsMore}
+use Rattle.vx_push.proofs.Handing.{none_is_more, opened_earlier, one_held, none_held, not_picture, waits_no_more_behind, takes_piece, takes_end, takes_zeros}
 
 -- ---- one source
 
@@ -41,25 +43,25 @@ longer later ps p =
     earlier_stay later (p ∷ ps) (length ps) within ∙ latest_at p ps (length ps) refl
 
 -- what it tells
-so_at : (R : Readers) (i : Intaking) (h : Handed) (n : ℕ) (c : HasComeBehind R i h n) (b : List ℕ) (s : Stream) → IsOpenedBy h b → AreSourcePictures R b s.pictures s.ending
-    → (state : State) → ComesTo R h c.pictures state → (state ≡ AtPicture → ShowsLatest (lent_by i.feed.assembler) c.pictures) → IsBehindRounds state n (length c.pictures) → IsSo state i n s
-so_at R i h n c b s opened are AtWait comes lends count = tt
-so_at R i h n c b s opened are AtPicture comes lends count =
-    let begins = comes.0 b s.pictures s.ending opened are in
-    held c.pictures (lends refl) count begins.0 begins.1
-  where
-    held : (ps : List StreamPicture) → ShowsLatest (lent_by i.feed.assembler) ps → length ps ≡ n + 1 → (later : List StreamPicture) → s.pictures ≡ later ++ ps → IsSo AtPicture i n s
-    held [] shows many later is = absurd shows
-    held (p ∷ ps) shows many later is =
-        let same : length ps ≡ n = omega (arith, many) in
-        (p, ap (λ (l : List StreamPicture). slice_get (reverse l) n) is ∙ subst (λ (m : ℕ). slice_get (reverse (later ++ p ∷ ps)) m ≡ Some p) same (longer later ps p), shows)
-so_at R i h n c b s opened are AtEnd comes lends count =
-    let all = comes.0 b s.pictures s.ending opened are in
-    (ap (λ (l : List StreamPicture). length l) all.0 ∙ count, all.1)
-so_at R i h n c b s opened are (AtRefusal r units) comes lends count =
-    let all = comes b s.pictures s.ending opened are in
-    (ap (λ (l : List StreamPicture). length l) all.0 ∙ count, all.1)
-so_at R i h n c b s opened are AtNoMemory comes lends count = tt
+so_at : (R : Readers) (i : Intaking) (h : Handed) (n : ℕ) (ps : List StreamPicture) → length ps ≡ n → (b : List ℕ) (s : Stream) → IsOpenedBy h b → AreSourcePictures R b s.pictures s.ending
+    → (state : State) → i.state ≡ state → ComesNext R i h ps state → IsSo state i n s
+so_at R i h n ps many b s opened are AtWait is next = tt
+so_at R i h n ps many b s opened are AtPicture is (p, come) =
+    let told = subst (λ (x : State). ComesTo R h (p ∷ ps) x) is come.told in
+    let begins = told.0 b s.pictures s.ending opened are in (
+      p,
+      ap (λ (l : List StreamPicture). slice_get (reverse l) n) begins.1 ∙ subst (λ (m : ℕ). slice_get (reverse (begins.0 ++ p ∷ ps)) m ≡ Some p) many (longer begins.0 ps p),
+      come.lends is,
+    )
+so_at R i h n ps many b s opened are AtEnd is come =
+    let told = subst (λ (x : State). ComesTo R h ps x) is come.told in
+    let all = told.0 b s.pictures s.ending opened are in
+    (ap (λ (l : List StreamPicture). length l) all.0 ∙ many, all.1)
+so_at R i h n ps many b s opened are (AtRefusal r units) is come =
+    let told = subst (λ (x : State). ComesTo R h ps x) is come.told in
+    let all = told b s.pictures s.ending opened are in
+    (ap (λ (l : List StreamPicture). length l) all.0 ∙ many, all.1)
+so_at R i h n ps many b s opened are AtNoMemory is come = tt
 
 same_wait : {j k : ℕ} → (let a : Mixed = ToWait j in a) ≡ ToWait k → j ≡ k
 same_wait is = cc
@@ -85,7 +87,7 @@ module _ (R : Readers) (intakes : List Intaking) (given : List Handed) (n : ℕ)
       let h = some_at given k within in
       let b = opened.each k h.0 s h.1 there in
       let c = come k i h.0 at h.1 in
-      so_at R i h.0 n c b.0 s b.1 b.2 i.state c.come.told c.come.lends c.count
+      so_at R i h.0 n c.pictures c.count b.0 s b.1 b.2 i.state refl c.come
 
   so_by : (k : ℕ) (i : Intaking) (s : Stream) (r : State) → slice_get intakes k ≡ Some i → slice_get ss k ≡ Some s → i.state ≡ r → IsSo r i n s
   so_by k i s r at there is = subst (λ (x : State). IsSo x i n s) is (so_of k i s at there)
@@ -187,12 +189,8 @@ opened_before R given more grown ss opened = record {
   count = opened.count ∙ grown.count;
   each = λ k h s at here.
       let x = grown.each k h at in
-      let is = x.2 in
       let b = opened.each k x.0 s x.1 here in
-      let rest = is.piece ++ b.1.rest in
-      let front : b.0 ≡ h.bytes ++ rest = b.1.front ∙ ap (λ (l : List ℕ). l ++ b.1.rest) is.bytes ∙ append_assoc h.bytes is.piece b.1.rest in
-      let none : h.all ≡ true → rest ≡ [] = λ all. let both = is.all all in ap (λ (l : List ℕ). l ++ b.1.rest) both.1 ∙ b.1.whole both.0 in
-      (b.0, record { rest = rest; front = front; whole = none }, b.2);
+      (b.0, opened_earlier h x.0 x.2 b.0 b.1, b.2);
 }
 
 -- A merger of the same task, and more that was handed in.
@@ -223,7 +221,7 @@ module _ (R : Readers) (m later : Merging) (given more : List Handed) (f : Follo
 
 -- nothing more
 no_more : (given : List Handed) → AreMore given given
-no_more given = record { count = refl; each = λ k h at. (h, at, record { piece = []; bytes = sym (append-nil h.bytes); all = λ all. (all, refl) }) }
+no_more given = record { count = refl; each = λ k h at. (h, at, none_is_more h) }
 
 -- so the rounds that were merged still are
 pub mixed_grown : (R : Readers) (m : Mixing) (later : List Intaking) (given more : List Handed) (done : List Plan) → HasMixed R m given done → AreMore given more → length later ≡ length m.intakes
@@ -331,11 +329,11 @@ module _ (R : Readers) (m : Mixing) (given : List Handed) (done : List Plan) (h 
           let within : x.k < length given = omega (arith, slice_get_within m.intakes x.k x.intake x.at, h.sources) in
           let g = some_at given x.k within in
           let c = h.come x.k x.intake g.0 x.at g.1 in
-          let comes : ComesTo R g.0 c.pictures AtWait = subst (λ (s : State). ComesTo R g.0 c.pictures s) is c.come.told in
-          let many : length c.pictures ≡ m.rounds = subst (λ (s : State). IsBehindRounds s m.rounds (length c.pictures)) is c.count in (
+          let come = none_held R x.intake g.0 c.pictures (not_picture x.intake.state is) c.come in
+          let comes : ComesTo R g.0 c.pictures AtWait = subst (λ (s : State). ComesTo R g.0 c.pictures s) is come.told in (
             h,
             subst (λ (i : ℕ). IsAwaited R given (length done) i) same
-                (record { handed = g.0; at = g.1; pictures = c.pictures; seen = comes.1; count = many ∙ sym h.rounds; open_ = comes.2 }),
+                (record { handed = g.0; at = g.1; pictures = c.pictures; seen = comes.1; count = c.count ∙ sym h.rounds; open_ = comes.2 }),
             λ ss can.
                 subst (λ (i : ℕ). NoneRefused i ss (length done)) same
                 (subst (λ (n : ℕ). NoneRefused x.k ss n) (sym h.rounds) (none_refused R m.intakes given m.rounds h.sources h.come ss can x.marks x.k x.before)),
@@ -444,40 +442,11 @@ module _ (R : Readers) (m : Mixing) (given : List Handed) (done : List Plan) (h 
 
 -- ---- what an intake comes to
 
--- next, behind pictures of which n were merged
-pub next_behind : (R : Readers) (i : Intaking) (h : Handed) (n : ℕ) (ps : List StreamPicture) → length ps ≡ n → ComesNext R i h ps i.state → HasComeBehind R i h n
-next_behind R i h n ps many next = by_state i.state refl next
-  where
-    by_state : (state : State) → i.state ≡ state → ComesNext R i h ps state → HasComeBehind R i h n
-    by_state AtPicture is c = record { pictures = c.0 ∷ ps; come = c.1; count = subst (λ (s : State). IsBehindRounds s n (length (c.0 ∷ ps))) (sym is) (omega (arith, many)) }
-    by_state AtWait is c = record { pictures = ps; come = c; count = subst (λ (s : State). IsBehindRounds s n (length ps)) (sym is) many }
-    by_state AtEnd is c = record { pictures = ps; come = c; count = subst (λ (s : State). IsBehindRounds s n (length ps)) (sym is) many }
-    by_state (AtRefusal r units) is c = record { pictures = ps; come = c; count = subst (λ (s : State). IsBehindRounds s n (length ps)) (sym is) many }
-    by_state AtNoMemory is c = record { pictures = ps; come = c; count = subst (λ (s : State). IsBehindRounds s n (length ps)) (sym is) many }
-
 -- behind the picture that it held
 pub passed_behind : (R : Readers) (i later : Intaking) (h : Handed) (n : ℕ) → i.state ≡ AtPicture → ((ps : List StreamPicture) → HasCome R i h ps → ComesNext R later h ps later.state) → HasComeBehind R i h n → HasComeBehind R later h (n + 1)
 passed_behind R i later h n is next c =
-    let many : length c.pictures ≡ n + 1 = subst (λ (s : State). IsBehindRounds s n (length c.pictures)) is c.count in
-    next_behind R later h (n + 1) c.pictures many (next c.pictures c.come)
-
--- where it waited
-pub waited_behind : (R : Readers) (i later : Intaking) (h more : Handed) (n : ℕ) → i.state ≡ AtWait → ((ps : List StreamPicture) → HasCome R i h ps → ComesNext R later more ps later.state) → HasComeBehind R i h n → HasComeBehind R later more n
-waited_behind R i later h more n is next c =
-    let many : length c.pictures ≡ n = subst (λ (s : State). IsBehindRounds s n (length c.pictures)) is c.count in
-    next_behind R later more n c.pictures many (next c.pictures c.come)
-
--- where it holds its picture still
-pub held_behind : (R : Readers) (i later : Intaking) (h more : Handed) (n : ℕ) → later.state ≡ i.state → ((ps : List StreamPicture) → HasCome R i h ps → HasCome R later more ps) → HasComeBehind R i h n → HasComeBehind R later more n
-held_behind R i later h more n same come c = record { pictures = c.pictures; come = come c.pictures c.come; count = subst (λ (s : State). IsBehindRounds s n (length c.pictures)) (sym same) c.count }
-
--- nothing more is the same
-pub none_more : (h : Handed) → with_more h [] ≡ h
-none_more h = ap (λ (b : List ℕ). let x : Handed = record { bytes = b; all = h.all } in x) (append-nil h.bytes)
-
--- an end that is told behind the end, a refusal or want of memory
-opened_by_end : (h : Handed) (b : List ℕ) → IsOpenedBy (with_end h) b → IsOpenedBy h b
-opened_by_end h b is = record { rest = is.rest; front = is.front; whole = λ all. is.whole refl }
+    let one = one_held R i h c.pictures is c.come in
+    record { pictures = one.0 ∷ c.pictures; come = next (one.0 ∷ c.pictures) one.1; count = omega (arith, c.count) }
 
 -- ---- one of several is given more
 
@@ -498,11 +467,11 @@ more_of given k h more at is = record {
 }
   where
     other : (j : ℕ) (g : Handed) → slice_get given j ≡ Some g → j ≢ k → (later : Handed) × (slice_get (slice_set given k more) j ≡ Some later) × IsMore g later
-    other j g there different = (g, set_other given j k more different ∙ there, record { piece = []; bytes = sym (append-nil g.bytes); all = λ all. (all, refl) })
+    other j g there different = (g, set_other given j k more different ∙ there, none_is_more g)
 
 -- so the rounds that were merged still are
 pub mixed_more : (R : Readers) (m : Mixing) (given : List Handed) (done : List Plan) → HasMixed R m given done → (k : ℕ) (i later : Intaking) (h more : Handed) → slice_get m.intakes k ≡ Some i → slice_get given k ≡ Some h → IsMore h more
-    → (HasComeBehind R i h m.rounds → HasComeBehind R later more m.rounds) → HasMixed R (record m { intakes = slice_set m.intakes k later }) (slice_set given k more) done
+    → HasComeBehind R later more m.rounds → HasMixed R (record m { intakes = slice_set m.intakes k later }) (slice_set given k more) done
 mixed_more R m given done h k i later g more at there is come =
     mixed_grown R m (slice_set m.intakes k later) given (slice_set given k more) done h (more_of given k g more there is) (length-set m.intakes k later)
     (λ j x y got was. elim (where_is j k) [
@@ -510,8 +479,7 @@ mixed_more R m given done h k i later g more at there is come =
       | inr (inl same) ↦
           let got_ : slice_get (slice_set m.intakes k later) k ≡ Some x = subst (λ (n : ℕ). slice_get (slice_set m.intakes k later) n ≡ Some x) same got in
           let was_ : slice_get (slice_set given k more) k ≡ Some y = subst (λ (n : ℕ). slice_get (slice_set given k more) n ≡ Some y) same was in
-          let new = come (h.come k i g at there) in
-          subst (λ (z : Intaking). HasComeBehind R z y m.rounds) (set_there m.intakes k later x got_) (subst (λ (z : Handed). HasComeBehind R later z m.rounds) (set_there given k more y was_) new)
+          subst (λ (z : Intaking). HasComeBehind R z y m.rounds) (set_there m.intakes k later x got_) (subst (λ (z : Handed). HasComeBehind R later z m.rounds) (set_there given k more y was_) come)
       | inr (inr behind) ↦ other j x y got was (λ same. omega (arith, same, behind))
     ])
   where
@@ -532,163 +500,57 @@ new_mixed R m corners count new rounds held end stands = record {
   come = λ k i h at there.
       let x = new k i at in
       subst (λ (g : Handed). HasComeBehind R i g m.rounds) (sym (new_given corners k h there))
-      (record { pictures = []; come = x.1 R; count = subst (λ (s : State). IsBehindRounds s m.rounds 0) (sym x.0) (sym rounds) });
+      (record { pictures = []; come = subst (λ (s : State). ComesNext R i nothing [] s) (sym x.0) (x.1 R); count = sym rounds });
   holds = λ kind is. let no = sym held ∙ is in absurd (cc);
   ended = λ other is. let no = sym end ∙ is in absurd (cc);
 }
-
--- ---- where nothing is taken
-
--- the same, whatever is known of what goes on
-pub same_behind : (R : Readers) (i later : Intaking) (h : Handed) (n : ℕ) → later ≡ i → HasComeBehind R i h n → HasComeBehind R later h n
-same_behind R i later h n same = subst (λ (x : Intaking). HasComeBehind R x h n) (sym same)
-
--- behind an end, a refusal or want of memory the end may be told
-pub ended_behind : (R : Readers) (i : Intaking) (h : Handed) (n : ℕ) → (i.state ≡ AtWait → ⊥) → (i.state ≡ AtPicture → ⊥) → HasComeBehind R i h n → HasComeBehind R i (with_end h) n
-ended_behind R i h n waits holds c = by_state i.state refl c.come.told
-  where
-    with_told : ComesTo R (with_end h) c.pictures i.state → IsFedBy R i (with_end h) c.pictures i.state → HasComeBehind R i (with_end h) n
-    with_told told fed = record { pictures = c.pictures; come = record { told = told; lends = c.come.lends; fed = fed }; count = c.count }
-
-    by_state : (s : State) → i.state ≡ s → ComesTo R h c.pictures s → HasComeBehind R i (with_end h) n
-    by_state AtWait is told = absurd (waits is)
-    by_state AtPicture is told = absurd (holds is)
-    by_state AtEnd is told =
-        with_told (subst (λ (s : State). ComesTo R (with_end h) c.pictures s) (sym is) ((λ b qs e opened are. told.0 b qs e (opened_by_end h b opened) are), refl)) (subst (λ (s : State). IsFedBy R i (with_end h) c.pictures s) (sym is) tt)
-    by_state (AtRefusal r units) is told =
-        with_told (subst (λ (s : State). ComesTo R (with_end h) c.pictures s) (sym is) (λ b qs e opened are. told b qs e (opened_by_end h b opened) are)) (subst (λ (s : State). IsFedBy R i (with_end h) c.pictures s) (sym is) tt)
-    by_state AtNoMemory is told =
-        with_told (subst (λ (s : State). ComesTo R (with_end h) c.pictures s) (sym is) (λ b qs e opened are. told b qs e (opened_by_end h b opened) are)) (subst (λ (s : State). IsFedBy R i (with_end h) c.pictures s) (sym is) tt)
 
 -- ---- more is handed in of one source
 
 -- what it is given, and what its intake makes of it
 hands_in : (old : Mixing) (k : ℕ) (i later : Intaking) (more : Intaking → Handed → Handed) → slice_get old.intakes k ≡ Some i
-    → ((R : Readers) (h : Handed) (n : ℕ) → HasComeBehind R i h n → IsMore h (more i h))
-    → ((R : Readers) → AreOfH266 R → (h : Handed) (n : ℕ) → HasComeBehind R i h n → HasComeBehind R later (more i h) n)
+    → ((R : Readers) → AreOfH266 R → (h : Handed) (ps : List StreamPicture) → ComesNext R i h ps i.state → IsMore h (more i h) × ComesNext R later (more i h) ps later.state)
     → HandsIn old (record old { intakes = slice_set old.intakes k later }) k more
-hands_in old k i later more at is come = record {
+hands_in old k i later more at takes = record {
   intake = i;
   at = at;
   later = later;
   only = refl;
-  mixed = λ R of given done h mixed there. mixed_more R old given done mixed k i later h (more i h) at there (is R h old.rounds (mixed.come k i h at there)) (come R of h old.rounds);
+  mixed = λ R of given done h mixed there.
+      let c = mixed.come k i h at there in
+      let x = takes R of h c.pictures c.come in
+      mixed_more R old given done mixed k i later h (more i h) at there x.0 (record { pictures = c.pictures; come = x.1; count = c.count });
 }
 
--- nothing, bytes or the end
-none_is_more : (h : Handed) → IsMore h h
-none_is_more h = record { piece = []; bytes = sym (append-nil h.bytes); all = λ all. (all, refl) }
+module _ (old : Mixing) (k : ℕ) (i later : Intaking) (at : slice_get old.intakes k ≡ Some i) (kept : (i.state ≡ AtWait → ⊥) → (i.state ≡ AtPicture → ⊥) → later ≡ i) where
+  abbrev Hands : (Intaking → Handed → Handed) → Type 0
+  Hands more = HandsIn old (record old { intakes = slice_set old.intakes k later }) k more
 
-bytes_are_more : (h : Handed) (piece : List ℕ) → (h.all ≡ true → piece ≡ []) → IsMore h (with_more h piece)
-bytes_are_more h piece none = record { piece = piece; bytes = refl; all = λ all. (all, none all) }
+  -- the end
+  pub end_hands : (i.state ≡ AtWait → (R : Readers) → AreOfH266 R → (h : Handed) (ps : List StreamPicture) → HasCome R i h ps → ComesNext R later (with_end h) ps later.state)
+      → (i.state ≡ AtPicture → (R : Readers) (h : Handed) (ps : List StreamPicture) → HasCome R i h ps → HasCome R later (with_end h) ps)
+      → (i.state ≡ AtPicture → later ≡ record i { ended = true }) → Hands (λ j h. with_end h)
+  end_hands comes behind holding =
+      hands_in old k i later (λ j h. with_end h) at (λ R of h ps c. takes_end R i later h ps c (λ waits. comes waits R of h) (λ holds. behind holds R h) holding kept)
 
-end_is_more : (h : Handed) → IsMore h (with_end h)
-end_is_more h = record { piece = []; bytes = sym (append-nil h.bytes); all = λ all. (refl, refl) }
-
--- it waits, holds a picture, or neither
-state_cases : (s : State) → (s ≡ AtWait) ⊎ ((s ≡ AtPicture) ⊎ ((s ≡ AtWait → ⊥) × (s ≡ AtPicture → ⊥)))
-state_cases AtWait = inl refl
-state_cases AtPicture = inr (inl refl)
-state_cases AtEnd = inr (inr (λ is. absurd (cc), λ is. absurd (cc)))
-state_cases (AtRefusal r units) = inr (inr (λ is. absurd (cc), λ is. absurd (cc)))
-state_cases AtNoMemory = inr (inr (λ is. absurd (cc), λ is. absurd (cc)))
-
-waits_or_holds : (s : State) → s ≡ AtWait → s ≡ AtPicture → ⊥
-waits_or_holds s waits holds = let no : AtWait ≡ AtPicture = sym waits ∙ holds in absurd (cc)
-
--- where it waits it doesn't know of an end, and where it holds a picture it knows of one that was told
-waits_open : (R : Readers) (i : Intaking) (h : Handed) (n : ℕ) → i.state ≡ AtWait → HasComeBehind R i h n → h.all ≡ false
-waits_open R i h n is c = (subst (λ (s : State). ComesTo R h c.pictures s) is c.come.told).2
-
-holds_all : (R : Readers) (i : Intaking) (h : Handed) (n : ℕ) → i.state ≡ AtPicture → HasComeBehind R i h n → h.all ≡ i.ended
-holds_all R i h n is c = (subst (λ (s : State). IsFedBy R i h c.pictures s) is c.come.fed).all
-
-not_both : (h : Handed) (A : Type 0) → h.all ≡ false → h.all ≡ true → A
-not_both h A is all = let no : false ≡ true = sym is ∙ all in absurd (cc)
+  -- zeros
+  pub flush_hands : (i.state ≡ AtWait → (R : Readers) → AreOfH266 R → (h : Handed) (ps : List StreamPicture) → HasCome R i h ps → ComesNext R later (with_more h zeros) ps later.state)
+      → (i.state ≡ AtPicture → i.ended ≡ false → i.flushed ≡ false → (R : Readers) (h : Handed) (ps : List StreamPicture) → HasCome R i h ps → HasCome R later (with_more h zeros) ps)
+      → (i.state ≡ AtPicture → later ≡ record i { flushed = later.flushed }) → (i.flushed ≡ true → later ≡ i) → (i.ended ≡ true → later ≡ i) → Hands with_zeros
+  flush_hands comes behind holding once ended =
+      hands_in old k i later with_zeros at (λ R of h ps c. takes_zeros R i later h ps c (λ waits. comes waits R of h) (λ holds open_ none. behind holds open_ none R h) holding once ended kept)
 
 -- bytes
-module _ (old : Mixing) (k : ℕ) (i later : Intaking) (at : slice_get old.intakes k ≡ Some i) (piece : List ℕ) (n : ℕ)
-    (comes : i.state ≡ AtWait → (R : Readers) → AreOfH266 R → (h : Handed) (ps : List StreamPicture) → HasCome R i h ps → ComesNext R later (with_more h (take n piece)) ps later.state)
-    (kept : (i.state ≡ AtWait → ⊥) → (n ≡ 0) × (later ≡ i)) where
-  none_taken : (i.state ≡ AtWait → ⊥) → take n piece ≡ []
-  none_taken waits = ap (λ (m : ℕ). take m piece) (kept waits).0
+pub push_hands : (old : Mixing) (k : ℕ) (i later : Intaking) → slice_get old.intakes k ≡ Some i → (piece : List ℕ) (n : ℕ)
+    → (i.state ≡ AtWait → (R : Readers) → AreOfH266 R → (h : Handed) (ps : List StreamPicture) → HasCome R i h ps → ComesNext R later (with_more h (take n piece)) ps later.state)
+    → ((i.state ≡ AtWait → ⊥) → (n ≡ 0) × (later ≡ i)) → HandsIn old (record old { intakes = slice_set old.intakes k later }) k (λ j h. with_more h (take n piece))
+push_hands old k i later at piece n comes kept =
+    hands_in old k i later (λ j h. with_more h (take n piece)) at (λ R of h ps c. takes_piece R i later h ps c piece n (λ waits. comes waits R of h) kept)
 
-  pub push_hands : HandsIn old (record old { intakes = slice_set old.intakes k later }) k (λ j h. with_more h (take n piece))
-  push_hands =
-      hands_in old k i later (λ j h. with_more h (take n piece)) at
-      (λ R h m c. elim (state_cases i.state) [
-        | inl waits ↦ bytes_are_more h (take n piece) (not_both h (take n piece ≡ []) (waits_open R i h m waits c))
-        | inr (inl holds) ↦ bytes_are_more h (take n piece) (λ all. none_taken (λ waits. waits_or_holds i.state waits holds))
-        | inr (inr neither) ↦ bytes_are_more h (take n piece) (λ all. none_taken neither.0)
-      ])
-      (λ R of h m c. elim (state_cases i.state) [
-        | inl waits ↦ waited_behind R i later h (with_more h (take n piece)) m waits (comes waits R of h) c
-        | inr (inl holds) ↦ same R h m c (λ waits. waits_or_holds i.state waits holds)
-        | inr (inr neither) ↦ same R h m c neither.0
-      ])
-    where
-      same : (R : Readers) (h : Handed) (m : ℕ) → HasComeBehind R i h m → (i.state ≡ AtWait → ⊥) → HasComeBehind R later (with_more h (take n piece)) m
-      same R h m c waits =
-          let is : h ≡ with_more h (take n piece) = sym (ap (λ (b : List ℕ). with_more h b) (none_taken waits) ∙ none_more h) in
-          subst (λ (x : Handed). HasComeBehind R later x m) is (same_behind R i later h m (kept waits).1 c)
-
--- the end
-module _ (old : Mixing) (k : ℕ) (i later : Intaking) (at : slice_get old.intakes k ≡ Some i)
-    (comes : i.state ≡ AtWait → (R : Readers) → AreOfH266 R → (h : Handed) (ps : List StreamPicture) → HasCome R i h ps → ComesNext R later (with_end h) ps later.state)
-    (waiting : i.state ≡ AtPicture → (R : Readers) (h : Handed) (ps : List StreamPicture) → HasCome R i h ps → HasCome R later (with_end h) ps)
-    (holding : i.state ≡ AtPicture → later ≡ record i { ended = true })
-    (kept : (i.state ≡ AtWait → ⊥) → (i.state ≡ AtPicture → ⊥) → later ≡ i) where
-  pub end_hands : HandsIn old (record old { intakes = slice_set old.intakes k later }) k (λ j h. with_end h)
-  end_hands =
-      hands_in old k i later (λ j h. with_end h) at (λ R h m c. end_is_more h)
-      (λ R of h m c. elim (state_cases i.state) [
-        | inl waits ↦ waited_behind R i later h (with_end h) m waits (comes waits R of h) c
-        | inr (inl holds) ↦ held_behind R i later h (with_end h) m (ap (λ (x : Intaking). x.state) (holding holds)) (waiting holds R h) c
-        | inr (inr neither) ↦ same_behind R i later (with_end h) m (kept neither.0 neither.1) (ended_behind R i h m neither.0 neither.1 c)
-      ])
-
--- zeros
-module _ (old : Mixing) (k : ℕ) (i later : Intaking) (at : slice_get old.intakes k ≡ Some i)
-    (comes : i.state ≡ AtWait → (R : Readers) → AreOfH266 R → (h : Handed) (ps : List StreamPicture) → HasCome R i h ps → ComesNext R later (with_more h zeros) ps later.state)
-    (waiting : i.state ≡ AtPicture → i.ended ≡ false → i.flushed ≡ false → (R : Readers) (h : Handed) (ps : List StreamPicture) → HasCome R i h ps → HasCome R later (with_more h zeros) ps)
-    (holding : i.state ≡ AtPicture → later ≡ record i { flushed = later.flushed })
-    (once : i.flushed ≡ true → later ≡ i) (behind : i.ended ≡ true → later ≡ i)
-    (kept : (i.state ≡ AtWait → ⊥) → (i.state ≡ AtPicture → ⊥) → later ≡ i) where
-  -- where it holds a picture
-  held_zeros : (R : Readers) (h : Handed) (m : ℕ) → i.state ≡ AtPicture → HasComeBehind R i h m → (flushed ended : Bool) → i.flushed ≡ flushed → i.ended ≡ ended
-      → IsMore h (flushed_by AtPicture flushed ended h) × HasComeBehind R later (flushed_by AtPicture flushed ended h) m
-  held_zeros R h m holds c false false is are = (
-    bytes_are_more h zeros (not_both h (zeros ≡ []) (holds_all R i h m holds c ∙ are)),
-    held_behind R i later h (with_more h zeros) m (ap (λ (x : Intaking). x.state) (holding holds)) (waiting holds are is R h) c,
-  )
-  held_zeros R h m holds c true ended is are = (none_is_more h, same_behind R i later h m (once is) c)
-  held_zeros R h m holds c false true is are = (none_is_more h, same_behind R i later h m (behind are) c)
-
-  -- where it neither waits nor holds one
-  no_zeros : (s : State) (flushed ended : Bool) (h : Handed) → (s ≡ AtWait → ⊥) → (s ≡ AtPicture → ⊥) → flushed_by s flushed ended h ≡ h
-  no_zeros AtWait flushed ended h waits holds = absurd (waits refl)
-  no_zeros AtPicture flushed ended h waits holds = absurd (holds refl)
-  no_zeros AtEnd flushed ended h waits holds = refl
-  no_zeros (AtRefusal r units) flushed ended h waits holds = refl
-  no_zeros AtNoMemory flushed ended h waits holds = refl
-
-  both : (R : Readers) (h : Handed) (m : ℕ) → HasComeBehind R i h m → IsMore h (with_zeros i h) × (AreOfH266 R → HasComeBehind R later (with_zeros i h) m)
-  both R h m c = elim (state_cases i.state) [
-    | inl waits ↦
-        subst (λ (s : State). IsMore h (flushed_by s i.flushed i.ended h) × (AreOfH266 R → HasComeBehind R later (flushed_by s i.flushed i.ended h) m)) (sym waits) (
-          bytes_are_more h zeros (not_both h (zeros ≡ []) (waits_open R i h m waits c)),
-          λ of. waited_behind R i later h (with_more h zeros) m waits (comes waits R of h) c,
-        )
-    | inr (inl holds) ↦
-        let x = held_zeros R h m holds c i.flushed i.ended refl refl in
-        subst (λ (s : State). IsMore h (flushed_by s i.flushed i.ended h) × (AreOfH266 R → HasComeBehind R later (flushed_by s i.flushed i.ended h) m)) (sym holds) (x.0, λ of. x.1)
-    | inr (inr neither) ↦
-        subst (λ (g : Handed). IsMore h g × (AreOfH266 R → HasComeBehind R later g m)) (sym (no_zeros i.state i.flushed i.ended h neither.0 neither.1))
-        (none_is_more h, λ of. same_behind R i later h m (kept neither.0 neither.1) c)
-  ]
-
-  pub flush_hands : HandsIn old (record old { intakes = slice_set old.intakes k later }) k with_zeros
-  flush_hands = hands_in old k i later with_zeros at (λ R h m c. (both R h m c).0) (λ R of h m c. (both R h m c).1 of)
+-- and none behind the end
+pub mixed_waits_no_more : (R : Readers) (m : Mixing) (given : List Handed) (done : List Plan) (k : ℕ) (i : Intaking) (h : Handed) → HasMixed R m given done → slice_get m.intakes k ≡ Some i → slice_get given k ≡ Some h → h.all ≡ true
+    → i.state ≡ AtWait → ⊥
+mixed_waits_no_more R m given done k i h mixed at there all = let c = mixed.come k i h at there in waits_no_more_behind R i h c.pictures c.come all
 
 -- ---- one source after another
 

@@ -1,5 +1,5 @@
 -- A feed in the bytes that it was given: what it comes to, by the units that it takes.
-use Rattle.std.proofs.Common.{◌≡◌, ℕ, ◌<◌, ◌≤◌, List, [], ◌∷◌, ◌++◌, ◌∙◌, Option, Some, None, Ok, Err, true, refl, ap, sym, subst, arith}
+use Rattle.std.proofs.Common.{◌≡◌, ℕ, ◌<◌, ◌≤◌, List, [], ◌∷◌, ◌++◌, ◌∙◌, Some, None, Ok, Err, true, refl, ap, sym, subst, arith}
 use Rattle.vx_annexb.specs.declared.header.NalHeader.{NalHeader}
 use Rattle.vx_pic.specs.declared.accepted.Accepted.{Accepted}
 use Rattle.vx_pic.specs.declared.accepted.Accepted.TheVariants as accepted
@@ -17,7 +17,7 @@ use Rattle.vx_assemble.specs.declared.feed.FeedFault.{FeedFault}
 use Rattle.vx_assemble.specs.declared.feed.FeedFault.TheVariants as faults
 use Rattle.vx_assemble.proofs.Advancing.{unit_done, unit_not_done}
 use Rattle.vx_push.specs.declared.intake.State.TheVariants as states
-use Rattle.vx_push.specs.inner.Comes.{HasTaken, SeeksTo, StepsTo, StillSeeks, state_by, stopped_by}
+use Rattle.vx_push.specs.inner.Comes.{HasTaken, StepsTo, StillSeeks, state_by, stopped_by}
 
 -- ---- one step
 

@@ -1,6 +1,6 @@
 -- An intake, as its callers see it: by these words, and by the relation `HasCome` between it, what was handed in to it, and the pictures
 -- that it came to, the latest first. That relation begins with none of these; `ComesTo` says what it is worth.
-use Rattle.std.specs.Prelude.{◌≡◌, ℕ, ◌<◌, true, false, List, ◌∷◌, length, Some, None}
+use Rattle.std.specs.Prelude.{◌≡◌, ℕ, ◌<◌, Bool, true, false, List, ◌∷◌, length, Some, None}
 use Rattle.vx_annexb.specs.Reading.{fed_at_once}
 use Rattle.vx_pic.specs.Readings.{Picture}
 use Rattle.vx_pic.specs.Rules.{Readers}
@@ -35,6 +35,15 @@ pub record HasCome (R : Readers) (i : Intaking) (h : Handed) (ps : List Picture)
 abbrev pub ComesNext : Readers → Intaking → Handed → List Picture → State → Type 0
 ComesNext R i h ps states.Picture = (p : Picture) × HasCome R i h (p ∷ ps)
 ComesNext R i h ps state = HasCome R i h ps
+
+-- the zeros that `flush` hands in, where it waits or holds a picture, and where neither these nor its end were handed in behind that
+abbrev pub flushed_by : State → (flushed ended : Bool) → Handed → Handed
+flushed_by states.Waits flushed ended h = with_more h zeros
+flushed_by states.Picture false false h = with_more h zeros
+flushed_by state flushed ended h = h
+
+abbrev pub with_zeros : Intaking → Handed → Handed
+with_zeros i h = flushed_by i.state i.flushed i.ended h
 
 -- how many of n bytes it takes at once: 65,536 at most, and of a stream one more than a source may have
 abbrev pub taken_at_once : Intaking → ℕ → ℕ

@@ -1,7 +1,7 @@
 -- A cutter, as its callers see it: by these words, and by the relation `HasCut` between it, what was handed in of its source, the pictures
 -- of that which it passed, and those that it wrote. That relation begins with none of these; `Answers` says what it is worth. Lists of
 -- pictures and of plans have the latest first.
-use Rattle.std.specs.Prelude.{◌≡◌, ◌⊎◌, ℕ, false, List, [], ◌∷◌, ◌++◌, length, map, Bool, Option, Some, None}
+use Rattle.std.specs.Prelude.{◌≡◌, ◌⊎◌, ℕ, false, List, [], ◌∷◌, ◌++◌, length, map, Option, Some, None}
 use Rattle.vx_bits.specs.declared.refusal.Refusal.{Refusal}
 use Rattle.vx_bits.specs.declared.refusal.Refusal.TheVariants.{Extract}
 use Rattle.vx_bits.specs.declared.rules.TheConstants.{NO_PICTURE}
@@ -21,11 +21,9 @@ use Rattle.vx_extract.specs.Written.{AreExtracted}
 use Rattle.vx_run.specs.declared.extract.Task.{Task}
 use Rattle.vx_run.specs.declared.stop.Stop.TheVariants.{Refused, NoMemory}
 use Rattle.vx_run.specs.Extract.{BreakNoRule, BreaksBehind, BeginsWithPictures, IsExtractable}
-use Rattle.vx_push.specs.declared.intake.State.{State}
-use Rattle.vx_push.specs.declared.intake.State.TheVariants.{Picture as AtPicture, Waits as AtWait}
 use Rattle.vx_push.specs.declared.cutter.Cut.{Cut}
 use Rattle.vx_push.specs.declared.cutter.Cut.TheVariants.{Picture as ToPicture, Waits as ToWait, Ended as ToEnd, Stopped as ToStop}
-use Rattle.vx_push.specs.Comes.{Intaking, Handed, with_more, with_end, zeros, OfEachStream, HasCome}
+use Rattle.vx_push.specs.Comes.{Intaking, Handed, OfEachStream, ComesNext}
 
 -- A cutter: its intake and its extractor; how many pictures it passed; the bytes of the last one that it wrote and what that is, until they
 -- are taken; and what it came to in the end.
@@ -55,28 +53,18 @@ HasEndedBy R t h ps _ = ⊥
 
 -- ---- the relation
 
--- its intake came to these pictures, and where it holds one, to one more
-abbrev pub IsBehindPictures : State → List Picture → List Picture → Type 0
-IsBehindPictures AtPicture ps seen = (p : Picture) × (seen ≡ p ∷ ps)
-IsBehindPictures state ps seen = seen ≡ ps
-
-pub record HasComeBehind (R : Readers) (i : Intaking) (h : Handed) (ps : List Picture) : Type 0 where
-  pub seen : List Picture
-  pub come : HasCome R i h seen
-  pub behind : IsBehindPictures i.state ps seen
-
 -- it holds what is written of this picture
 pub record HoldsPicture (c : Cutting) (p : Plan) : Type 0 where
   pub bytes : c.cut ≡ written (units_of p)
   pub kind : c.held ≡ Some p.kind
 
--- This was handed in; these pictures of it were passed, none of which breaks a rule; and those of them that are kept are written so. It
--- holds the latest of these, or that was taken.
+-- This was handed in, and its intake came to what is next behind these pictures, which were passed; none of them breaks a rule, and those
+-- of them that are kept are written so. It holds the latest of these, or that was taken.
 pub record HasCut (R : Readers) (t : Task) (c : Cutting) (h : Handed) (ps : List Picture) (done : List Plan) : Type 0 where
   pub target : c.extractor.target ≡ t.target
   pub level : c.extractor.level ≡ t.level
   pub tid : c.extractor.tid ≡ t.tid
-  pub come : HasComeBehind R c.intake h ps
+  pub come : ComesNext R c.intake h ps c.intake.state
   pub count : c.pictures ≡ length ps
   pub rules : BreakNoRule t ps
   pub plans : AreExtracted t.target t.level (map parts_of (at_most t.tid ps)) done
@@ -97,15 +85,3 @@ abbrev pub Answers : Readers → Task → Cutting → Handed → List Picture �
 Answers R t c h ps done ToPicture = (later : List Picture) × (p : Plan) × HasCut R t c h (later ++ ps) (p ∷ done) × HoldsPicture c p
 Answers R t c h ps done ToWait = (later : List Picture) × HasCut R t c h (later ++ ps) done × IsAwaited R h (later ++ ps)
 Answers R t c h ps done end = (later : List Picture) × HasCut R t c h (later ++ ps) done × HasEndedBy R t h (later ++ ps) end × (c.end ≡ Some end)
-
--- the zeros that `flush` hands in, where it waits or holds a picture, and where neither these nor its end were handed in behind that
-abbrev pub flushed_by : State → Bool → Bool → Handed → Handed
-flushed_by AtWait flushed ended h = with_more h zeros
-flushed_by AtPicture false false h = with_more h zeros
-flushed_by state flushed ended h = h
-
--- and that there are no more bytes, where it goes on
-abbrev pub ended_by : State → Handed → Handed
-ended_by AtWait h = with_end h
-ended_by AtPicture h = with_end h
-ended_by state h = h

@@ -1,6 +1,6 @@
 -- A mixer, as its callers see it: by these words, and by the relation `HasMixed` between it, what was handed in of each source, and the
 -- rounds that it merged. That relation begins with none of these; `Answers` says what it is worth.
-use Rattle.std.specs.Prelude.{◌≡◌, ◌⊎◌, ℕ, ◌+◌, ◌<◌, Bool, false, List, [], ◌∷◌, length, slice_get, slice_set, Option, Some, None, Ok, Err}
+use Rattle.std.specs.Prelude.{◌≡◌, ◌⊎◌, ℕ, ◌+◌, ◌<◌, false, List, [], ◌∷◌, length, slice_get, slice_set, Option, Some, None, Ok, Err}
 use Rattle.vx_annexb.specs.Laws.{written}
 use Rattle.vx_pic.specs.declared.kind.Kind.{Kind}
 use Rattle.vx_pic.specs.Readings.{Picture as StreamPicture}
@@ -14,11 +14,10 @@ use Rattle.vx_run.specs.declared.stop.Stop.TheVariants.{Refused, NoMemory}
 use Rattle.vx_run.specs.Conclusion.{Outcome}
 use Rattle.vx_run.specs.Rounds.{Stream, NoneRefused}
 use Rattle.vx_run.specs.Merge.{AreRoundsWritten, EndsWritten}
-use Rattle.vx_push.specs.declared.intake.State.{State}
-use Rattle.vx_push.specs.declared.intake.State.TheVariants.{Waits as AtWait, Picture as AtPicture, NoMemory as AtNoMemory}
+use Rattle.vx_push.specs.declared.intake.State.TheVariants.{Waits as AtWait, NoMemory as AtNoMemory}
 use Rattle.vx_push.specs.declared.mixer.Mixed.{Mixed}
 use Rattle.vx_push.specs.declared.mixer.Mixed.TheVariants.{Picture as ToPicture, Waits as ToWait, Ended as ToEnd, Stopped as ToStop}
-use Rattle.vx_push.specs.Comes.{Intaking, Handed, with_more, zeros, taken_at_once, IsOpenedBy, HasCome}
+use Rattle.vx_push.specs.Comes.{Intaking, Handed, taken_at_once, IsOpenedBy, ComesNext}
 
 -- A mixer: an intake for each source; its merger; how many rounds it merged; the bytes of the last of them and what it is, until they are
 -- taken; and what it came to in the end.
@@ -56,15 +55,11 @@ GoOnFirst R given done k = Whatever R given (λ ss. NoneRefused k ss (length don
 
 -- ---- the relation
 
--- An intake that came to so many pictures behind n that were merged: it holds one more, or none.
-abbrev pub IsBehindRounds : State → ℕ → ℕ → Type 0
-IsBehindRounds AtPicture n count = count ≡ n + 1
-IsBehindRounds state n count = count ≡ n
-
+-- An intake that came to what is next behind n pictures, which were merged.
 pub record HasComeBehind (R : Readers) (i : Intaking) (h : Handed) (n : ℕ) : Type 0 where
   pub pictures : List StreamPicture
-  pub come : HasCome R i h pictures
-  pub count : IsBehindRounds i.state n (length pictures)
+  pub come : ComesNext R i h pictures i.state
+  pub count : length pictures ≡ n
 
 -- What a mixer came to is the end of the merge behind these rounds; or it had no memory, and these rounds are merged.
 abbrev pub HasEndedBy : Readers → Merging → List Handed → List Plan → Mixed → Type 0
@@ -107,15 +102,6 @@ Answers R m given done (ToWait k) = HasMixed R m given done × IsAwaited R given
 Answers R m given done end = HasMixed R m given done × HasEndedBy R m.merger given done end × (m.end ≡ Some end)
 
 -- ---- what is handed in
-
--- the zeros that `flush` hands in, where it waits or holds a picture, and where neither these nor its end were handed in behind that
-abbrev pub flushed_by : State → Bool → Bool → Handed → Handed
-flushed_by AtWait flushed ended h = with_more h zeros
-flushed_by AtPicture false false h = with_more h zeros
-flushed_by state flushed ended h = h
-
-abbrev pub with_zeros : Intaking → Handed → Handed
-with_zeros i h = flushed_by i.state i.flushed i.ended h
 
 -- More was handed in of source k, by its intake, and nothing else was done. The rounds that were merged still are.
 pub record HandsIn (old new : Mixing) (k : ℕ) (more : Intaking → Handed → Handed) : Type 0 where

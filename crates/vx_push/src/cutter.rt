@@ -1,11 +1,12 @@
 //! An extraction whose source is handed in as it comes.
-ghost use Rattle.std.specs.Prelude.{◌≡◌, ℕ, List, cond, nat_le, Some, None, Ok, Err, IfErr, OnOk};
+ghost use Rattle.std.specs.Prelude.{◌≡◌, List, cond, nat_le, Some, None, Ok, Err, IfErr, OnOk};
 ghost use Rattle.vx_pic.specs.Written.{Plan};
 ghost use Rattle.vx_extract.specs.Extracting.{Stands, SameTask};
 ghost use Rattle.vx_push.specs.declared.intake.State.TheVariants.{Picture as AtPicture};
 ghost use Rattle.vx_push.specs.inner.Cutting.{EndsBehind, HaltsBy, Cuts, stop_by, end_by};
 
 use crate::intake::{Intake, State};
+use crate::store::{Store, WrittenPicture};
 use std::alloc::{AllocError, Global};
 use std::marker::Model;
 use vx_extract::{Extractor, WriteError};
@@ -26,17 +27,6 @@ pub enum Cut {
     Stopped(Stop),
 }
 
-/// A picture that was cut out.
-#[derive(Clone, Copy, Debug, PartialEq, Eq)]
-pub struct CutPicture {
-    /// Its number in the source, from 0.
-    pub number: u64,
-    /// How many bytes are written of it.
-    pub bytes: usize,
-    /// What it is among the pictures of the source.
-    pub kind: Kind,
-}
-
 /// Extracts a subpicture of a byte stream that is handed in as it comes. It holds one picture of it at most, and goes on once that
 /// was taken.
 #[derive(Drop)]
@@ -47,9 +37,8 @@ pub struct Cutter {
     tid: u8,
     // How many pictures of the source were written or left out.
     pictures: u64,
-    // What is written of the latest of them, and what it is, until it is taken.
-    cut: GrowSink,
-    held: Option<Kind>,
+    // The latest of them, until it is taken.
+    store: Store,
     // What it came to in the end.
     end: Option<Cut>,
 }
@@ -60,7 +49,7 @@ impl Model for Cutter {
 
     ghost Value = { Cutting };
 
-    ghost view = { λ c. record { intake = c.intake; extractor = c.extractor; pictures = c.pictures; cut = c.cut.taken; held = c.held; end = c.end } };
+    ghost view = { λ c. record { intake = c.intake; extractor = c.extractor; pictures = c.pictures; cut = c.store.written.taken; held = c.store.held; end = c.end } };
 
     ghost invariant = { λ c. c.tid ≡ c.extractor.tid };
 }
@@ -148,19 +137,18 @@ fn end_of(cut: Cut) -> Option<Cut>
 }
 
 impl Cutter {
-    ghost use Rattle.std.specs.Prelude.{◌≡◌, ◌⊎◌, ℕ, ◌+◌, ◌-◌, ◌<◌, ◌≤◌, ◌++◌, List, [], length, take, drop, Some, None, Ok, Err, IfOk, IfSome, OnSome, IfNone};
+    ghost use Rattle.std.specs.Prelude.{◌≡◌, ◌⊎◌, ◌+◌, ◌-◌, ◌<◌, ◌≤◌, ◌++◌, true, List, [], length, take, drop, Some, None, Ok, Err, IfOk, IfSome, OnSome, IfNone};
     ghost use Rattle.vx_pic.specs.Readings.{Picture as StreamPicture};
     ghost use Rattle.vx_pic.specs.Rules.{Readers};
     ghost use Rattle.vx_pic.specs.H266.{AreOfH266};
     ghost use Rattle.vx_pic.specs.declared.kind.Kind.{Kind as KindOf};
     ghost use Rattle.vx_pic.specs.Written.{Plan};
-    ghost use Rattle.vx_extract.specs.Extracting.{SameTask};
     ghost use Rattle.vx_run.specs.declared.extract.Task.{Task as Asked};
-    ghost use Rattle.vx_push.specs.Comes.{Handed, nothing, with_more, taken_at_once};
+    ghost use Rattle.vx_push.specs.Comes.{Handed, nothing, with_more, with_zeros, with_end, taken_at_once};
     ghost use Rattle.vx_push.specs.declared.cutter.Cut.{Cut as Answer};
-    ghost use Rattle.vx_push.specs.declared.cutter.Cut.TheVariants.{Picture as ToPicture, Waits as ToWait};
+    ghost use Rattle.vx_push.specs.declared.cutter.Cut.TheVariants.{Picture as ToPicture};
     ghost use Rattle.vx_push.specs.declared.intake.State.TheVariants.{Waits as AtWait, NoMemory as AtNoMemory};
-    ghost use Rattle.vx_push.specs.Cutting.{HasCut, Answers, flushed_by, ended_by};
+    ghost use Rattle.vx_push.specs.Cutting.{HasCut, Answers};
     ghost use Rattle.vx_push.specs.inner.Cutting.{StepsTo, units_left};
 
     /// A cutter that does this task.
@@ -176,8 +164,7 @@ impl Cutter {
             extractor: Extractor::limited(alloc, task.target, task.level, task.tid),
             tid: task.tid,
             pictures: 0,
-            cut: GrowSink::new(alloc),
-            held: None,
+            store: Store::new(alloc),
             end: None,
         })
     }
@@ -191,6 +178,8 @@ impl Cutter {
             → (result ≡ taken_at_once self.old.intake (length piece.now)) ⊎ ((result ≡ 0) × (self.new.intake.state ≡ AtNoMemory)) }
         ensures within { result ≤ length piece.now }
         ensures kept { (self.old.intake.state ≡ AtWait → ⊥) → (result ≡ 0) × (self.new ≡ self.old) }
+        ensures ended { (R : Readers) (t : Asked) (h : Handed) (ps : List StreamPicture) (done : List Plan)
+            → HasCut R t self.old h ps done → h.all ≡ true → result ≡ 0 }
     {
         self.intake.push(piece)
     }
@@ -199,7 +188,7 @@ impl Cutter {
     pub fn flush(&mut self)
         ensures cut { (R : Readers) → AreOfH266 R → (t : Asked) (h : Handed) (ps : List StreamPicture) (done : List Plan)
             → HasCut R t self.old h ps done
-            → HasCut R t self.new (flushed_by self.old.intake.state self.old.intake.flushed self.old.intake.ended h) ps done }
+            → HasCut R t self.new (with_zeros self.old.intake h) ps done }
     {
         self.intake.flush();
     }
@@ -207,7 +196,7 @@ impl Cutter {
     /// There are no more bytes.
     pub fn end(&mut self)
         ensures cut { (R : Readers) → AreOfH266 R → (t : Asked) (h : Handed) (ps : List StreamPicture) (done : List Plan)
-            → HasCut R t self.old h ps done → HasCut R t self.new (ended_by self.old.intake.state h) ps done }
+            → HasCut R t self.old h ps done → HasCut R t self.new (with_end h) ps done }
     {
         self.intake.end();
     }
@@ -228,7 +217,7 @@ impl Cutter {
             self.tid,
             &self.intake.picture(),
             self.pictures,
-            &mut self.cut,
+            &mut self.store.written,
         )?;
         self.pictures = self.pictures.saturating_add(1);
         self.intake.pass();
@@ -243,7 +232,7 @@ impl Cutter {
         ensures held { (kind : KindOf) → self.old.held ≡ Some kind → (result ≡ ToPicture) × (self.new ≡ self.old) }
         ensures ended { (end : Answer) → self.old.held ≡ None → self.old.end ≡ Some end → (result ≡ end) × (self.new ≡ self.old) }
     {
-        if self.held.is_some() {
+        if self.store.held.is_some() {
             return Cut::Picture;
         }
         if let Some(end) = self.end {
@@ -253,7 +242,7 @@ impl Cutter {
             match self.step() {
                 Ok(None) => {}
                 Ok(Some(kind)) => {
-                    self.held = Some(kind);
+                    self.store.held = Some(kind);
                     return Cut::Picture;
                 }
                 Err(cut) => {
@@ -265,16 +254,11 @@ impl Cutter {
     }
 
     /// The picture that is to be taken.
-    pub fn picture(&self) -> Option<CutPicture>
+    pub fn picture(&self) -> Option<WrittenPicture>
         ensures some { IfSome result (λ p. (self.now.held ≡ Some p.kind) × (p.number ≡ self.now.pictures - 1) × (p.bytes ≡ length self.now.cut)) }
         ensures none { IfNone result (self.now.held ≡ None) }
     {
-        let kind = self.held?;
-        Some(CutPicture {
-            number: self.pictures.saturating_sub(1),
-            bytes: self.cut.bytes().len(),
-            kind,
-        })
+        self.store.picture(self.pictures.saturating_sub(1))
     }
 
     /// What it came to in the end, if it did.
@@ -294,13 +278,6 @@ impl Cutter {
         ensures cut { (R : Readers) (t : Asked) (h : Handed) (ps : List StreamPicture) (done : List Plan) → HasCut R t self.old h ps done
             → HasCut R t self.new h ps done }
     {
-        let count = self.cut.bytes().len();
-        if self.held.is_none() || into.len() < count {
-            return None;
-        }
-        into[..count].copy_from_slice(self.cut.bytes());
-        self.cut = GrowSink::new(self.alloc);
-        self.held = None;
-        Some(count)
+        self.store.take(into)
     }
 }

@@ -44,11 +44,12 @@ impl Model for Intake {
 }
 
 impl Intake {
-    ghost use Rattle.std.specs.Prelude.{◌≡◌, ◌⊎◌, ℕ, ◌+◌, ◌^◌, ◌<◌, ◌≤◌, true, false, List, [], take, length, IfOk};
+    ghost use Rattle.std.specs.Prelude.{◌≡◌, ◌⊎◌, ◌+◌, ◌^◌, ◌<◌, ◌≤◌, true, false, List, [], take, length, IfOk};
     ghost use Rattle.vx_pic.specs.Readings.{Picture as StreamPicture};
     ghost use Rattle.vx_pic.specs.Rules.{Readers};
     ghost use Rattle.vx_pic.specs.H266.{AreOfH266};
     ghost use Rattle.vx_assemble.specs.Held.{ShowsLatest, lent_by};
+    ghost use Rattle.vx_assemble.specs.Feed.{most_held};
     ghost use Rattle.vx_push.specs.Handed.{Handed, nothing, with_more, with_end, zeros};
     ghost use Rattle.vx_push.specs.Comes.{HasCome, ComesTo, ComesNext, taken_at_once, bytes_held};
     ghost use Rattle.vx_push.specs.declared.intake.State.TheVariants.{Waits, Picture as Holds, NoMemory};
@@ -72,13 +73,13 @@ impl Intake {
     pub fn state(&self) -> State
         ensures state { result ≡ self.now.state }
         ensures told { (R : Readers) (h : Handed) (ps : List StreamPicture) → HasCome R self.now h ps → ComesTo R h ps result }
-        ensures bytes { bytes_held self.now ≤ 2 ^ 25 + 2 ^ 23 + 65538 }
+        ensures bytes { bytes_held self.now ≤ most_held }
     {
         self.state
     }
 
     /// Takes the first bytes of a piece where it waits, at most 65,536 of them, and answers how many; then it goes on. Where it
-    /// doesn't wait, it takes none. None are taken either where there is no memory for them.
+    /// doesn't wait, it takes none, and so behind the end. None are taken either where there is no memory for them.
     pub fn push(&mut self, piece: &[u8]) -> usize
         ensures comes { self.old.state ≡ Waits → (R : Readers) → AreOfH266 R → (h : Handed) (ps : List StreamPicture)
             → HasCome R self.old h ps → ComesNext R self.new (with_more h (take result piece.now)) ps self.new.state }
@@ -86,7 +87,8 @@ impl Intake {
             → (result ≡ taken_at_once self.old (length piece.now)) ⊎ ((result ≡ 0) × (self.new.state ≡ NoMemory)) }
         ensures within { result ≤ length piece.now }
         ensures kept { (self.old.state ≡ Waits → ⊥) → (result ≡ 0) × (self.new ≡ self.old) }
-        ensures bytes { bytes_held self.new ≤ 2 ^ 25 + 2 ^ 23 + 65538 }
+        ensures ended { (R : Readers) (h : Handed) (ps : List StreamPicture) → HasCome R self.old h ps → h.all ≡ true → result ≡ 0 }
+        ensures bytes { bytes_held self.new ≤ most_held }
     {
         if !waits(self.state) {
             return 0;
@@ -114,7 +116,7 @@ impl Intake {
         ensures once { self.old.flushed ≡ true → self.new ≡ self.old }
         ensures ended { self.old.ended ≡ true → self.new ≡ self.old }
         ensures kept { (self.old.state ≡ Waits → ⊥) → (self.old.state ≡ Holds → ⊥) → self.new ≡ self.old }
-        ensures bytes { bytes_held self.new ≤ 2 ^ 25 + 2 ^ 23 + 65538 }
+        ensures bytes { bytes_held self.new ≤ most_held }
     {
         match self.state {
             State::Waits => self.state = give_zeros(&mut self.feed),
@@ -131,7 +133,7 @@ impl Intake {
             → HasCome R self.old h ps → HasCome R self.new (with_end h) ps }
         ensures holds { self.old.state ≡ Holds → self.new ≡ record self.old { ended = true } }
         ensures kept { (self.old.state ≡ Waits → ⊥) → (self.old.state ≡ Holds → ⊥) → self.new ≡ self.old }
-        ensures bytes { bytes_held self.new ≤ 2 ^ 25 + 2 ^ 23 + 65538 }
+        ensures bytes { bytes_held self.new ≤ most_held }
     {
         match self.state {
             State::Waits => {
@@ -150,7 +152,7 @@ impl Intake {
         ensures kept { (self.old.state ≡ Holds → ⊥) → self.new ≡ self.old }
         ensures units { self.old.state ≡ Holds → self.new.state ≡ Holds → self.old.feed.units < self.new.feed.units }
         ensures few { self.new.state ≡ Holds → self.new.feed.units ≤ 2 ^ 40 }
-        ensures bytes { bytes_held self.new ≤ 2 ^ 25 + 2 ^ 23 + 65538 }
+        ensures bytes { bytes_held self.new ≤ most_held }
     {
         if let State::Picture = self.state {
             self.state = go_on(&mut self.feed, &mut self.flushed, self.ended);

@@ -11,9 +11,11 @@ mod intake;
 mod line;
 mod mixer;
 mod seek;
+mod store;
 
 pub use corners::are_corners;
-pub use cutter::{Cut, CutPicture, Cutter};
+pub use cutter::{Cut, Cutter};
 pub use intake::{Intake, State};
 pub use line::stop_line;
-pub use mixer::{MergedPicture, Mixed, Mixer, NoSource, mixed_is_merged};
+pub use mixer::{Mixed, Mixer, NoSource, mixed_is_merged};
+pub use store::WrittenPicture;

@@ -4,12 +4,13 @@ ghost use Rattle.vx_pic.specs.Rules.{Readers};
 ghost use Rattle.vx_pic.specs.H266.{AreOfH266};
 ghost use Rattle.vx_pic.specs.Written.{Plan};
 ghost use Rattle.vx_merge.specs.Merging.{AreCorners, SameTask, Stands};
-ghost use Rattle.vx_push.specs.Comes.{Handed, HasCome, nothing};
+ghost use Rattle.vx_push.specs.Comes.{Handed, nothing};
 ghost use Rattle.vx_push.specs.declared.intake.State.TheVariants.{Picture as AtPicture};
 ghost use Rattle.vx_push.specs.Mixing.{MixedIsMerged};
 ghost use Rattle.vx_push.specs.inner.Mixing.{AreNew, stop_by, mark_of, AreSeen, HaltsBy, HaltsFirst, Looks, MergesHanded, HavePassed, end_by, round_of};
 
 use crate::intake::{Intake, State};
+use crate::store::{Store, WrittenPicture};
 use std::alloc::{AllocError, Global};
 use std::marker::Model;
 use vx_io::GrowSink;
@@ -30,17 +31,6 @@ pub enum Mixed {
     Stopped(Stop),
 }
 
-/// A merged picture.
-#[derive(Clone, Copy, Debug, PartialEq, Eq)]
-pub struct MergedPicture {
-    /// Its number, from 0.
-    pub number: u64,
-    /// How many bytes are written of it.
-    pub bytes: usize,
-    /// What it is among the pictures of the merged stream.
-    pub kind: Kind,
-}
-
 /// There is no source of this number.
 #[derive(Clone, Copy, Debug, PartialEq, Eq)]
 pub struct NoSource;
@@ -56,9 +46,8 @@ pub struct Mixer {
     ended: Vec<bool>,
     // How many rounds were merged.
     rounds: u64,
-    // What is written of the latest of them, and what it is, until it is taken.
-    merged: GrowSink,
-    held: Option<Kind>,
+    // The picture of the latest of them, until it is taken.
+    store: Store,
     // What it came to in the end.
     end: Option<Mixed>,
 }
@@ -70,7 +59,7 @@ impl Model for Mixer {
 
     ghost Value = { Mixing };
 
-    ghost view = { λ m. record { intakes = m.intakes.items; merger = m.merger; rounds = m.rounds; merged = m.merged.taken; held = m.held; end = m.end } };
+    ghost view = { λ m. record { intakes = m.intakes.items; merger = m.merger; rounds = m.rounds; merged = m.store.written.taken; held = m.store.held; end = m.end } };
 
     ghost invariant = { λ m. AreCorners m.merger.corners × (vec_len m.intakes ≡ length m.merger.corners) × (vec_len m.ended ≡ length m.merger.corners) };
 }
@@ -190,17 +179,16 @@ fn pass_each(intakes: &mut Vec<Intake>)
 }
 
 impl Mixer {
-    ghost use Rattle.std.specs.Prelude.{◌≡◌, ◌⊎◌, ℕ, ◌+◌, ◌-◌, ◌<◌, ◌≤◌, ◌++◌, List, [], length, take, drop, map, slice_get, slice_set, None, Some, IfOk, IfSome, OnOk, IfNone, OnErr, OnSome};
+    ghost use Rattle.std.specs.Prelude.{◌≡◌, ◌⊎◌, ℕ, ◌+◌, ◌-◌, ◌<◌, ◌≤◌, ◌++◌, true, List, [], length, take, drop, map, slice_get, None, Some, IfOk, IfSome, OnOk, IfNone, OnErr, OnSome};
     ghost use Rattle.vx_pic.specs.Rules.{Readers};
     ghost use Rattle.vx_pic.specs.H266.{AreOfH266};
     ghost use Rattle.vx_pic.specs.declared.kind.Kind.{Kind as KindOf};
     ghost use Rattle.vx_pic.specs.Written.{Plan};
     ghost use Rattle.vx_merge.specs.Merging.{AreCorners, SameTask};
-    ghost use Rattle.vx_push.specs.Comes.{Intaking, Handed, nothing, with_more, with_end, zeros};
+    ghost use Rattle.vx_push.specs.Comes.{Intaking, Handed, nothing, with_more, with_zeros, with_end};
     ghost use Rattle.vx_push.specs.declared.mixer.Mixed.{Mixed as Answer};
     ghost use Rattle.vx_push.specs.declared.mixer.Mixed.TheVariants.{Picture as ToPicture, Waits as ToWait};
-    ghost use Rattle.vx_push.specs.declared.intake.State.TheVariants.{Waits as AtWait, Picture as AtPicture};
-    ghost use Rattle.vx_push.specs.Mixing.{HasMixed, Answers, HandsIn, Takes, with_zeros};
+    ghost use Rattle.vx_push.specs.Mixing.{HasMixed, Answers, HandsIn, Takes};
 
     /// A mixer of a source for each of these upper left corners, in luma samples, of the region that its pictures are; with a level of its own
     /// or the sources' highest.
@@ -219,8 +207,7 @@ impl Mixer {
             intakes,
             ended,
             rounds: 0,
-            merged: GrowSink::new(alloc),
-            held: None,
+            store: Store::new(alloc),
             end: None,
         })
     }
@@ -235,6 +222,8 @@ impl Mixer {
         ensures handed { IfOk result (λ n. HandsIn self.old self.new source (λ i h. with_more h (take n piece.now))) }
         ensures count { IfOk result (λ n. (n ≤ length piece.now) × ((i later : Intaking) → slice_get self.old.intakes source ≡ Some i
             → slice_get self.new.intakes source ≡ Some later → Takes i later (length piece.now) n)) }
+        ensures ended { IfOk result (λ n. (R : Readers) (given : List Handed) (done : List Plan) (h : Handed)
+            → HasMixed R self.old given done → slice_get given source ≡ Some h → h.all ≡ true → n ≡ 0) }
         ensures wrong { OnErr result ((length self.old.intakes ≤ source) × (self.new ≡ self.old)) }
     {
         if source >= self.intakes.len() {
@@ -285,7 +274,7 @@ impl Mixer {
         ensures waits { (k : ℕ) → result ≡ ToWait k → self.new ≡ self.old }
         ensures task { SameTask self.old.merger self.new.merger }
     {
-        if self.held.is_some() {
+        if self.store.held.is_some() {
             return Mixed::Picture;
         }
         if let Some(end) = self.end {
@@ -301,10 +290,10 @@ impl Mixer {
             &mut self.merger,
             &self.intakes,
             rounds,
-            &mut self.merged,
+            &mut self.store.written,
         ) {
             Ok(kind) => {
-                self.held = Some(kind);
+                self.store.held = Some(kind);
                 self.rounds = rounds.saturating_add(1);
                 pass_each(&mut self.intakes);
                 Mixed::Picture
@@ -317,16 +306,11 @@ impl Mixer {
     }
 
     /// The merged picture that is to be taken.
-    pub fn picture(&self) -> Option<MergedPicture>
+    pub fn picture(&self) -> Option<WrittenPicture>
         ensures some { IfSome result (λ p. (self.now.held ≡ Some p.kind) × (p.number ≡ self.now.rounds - 1) × (p.bytes ≡ length self.now.merged)) }
         ensures none { IfNone result (self.now.held ≡ None) }
     {
-        let kind = self.held?;
-        Some(MergedPicture {
-            number: self.rounds.saturating_sub(1),
-            bytes: self.merged.bytes().len(),
-            kind,
-        })
+        self.store.picture(self.rounds.saturating_sub(1))
     }
 
     /// What it came to in the end, if it did.
@@ -345,14 +329,7 @@ impl Mixer {
         ensures kept { IfNone result ((self.new ≡ self.old) × (into.new ≡ into.old)) }
         ensures mixed { (R : Readers) (given : List Handed) (done : List Plan) → HasMixed R self.old given done → HasMixed R self.new given done }
     {
-        let count = self.merged.bytes().len();
-        if self.held.is_none() || into.len() < count {
-            return None;
-        }
-        into[..count].copy_from_slice(self.merged.bytes());
-        self.merged = GrowSink::new(self.alloc);
-        self.held = None;
-        Some(count)
+        self.store.take(into)
     }
 }
 

@@ -8,7 +8,7 @@ ghost use Rattle.vx_pic.specs.Readings.{Reading, Picture as StreamPicture, pictu
 ghost use Rattle.vx_pic.specs.Rules.{Readers};
 ghost use Rattle.vx_pic.specs.H266.{AreOfH266};
 ghost use Rattle.vx_assemble.specs.Held.{HasPicture, ShowsLatest, lent_by};
-ghost use Rattle.vx_assemble.specs.Feed.{HasFed, IsOpen, IsToldBy, bytes_held, left_to_take};
+ghost use Rattle.vx_assemble.specs.Feed.{HasFed, IsOpen, IsToldBy, bytes_held, left_to_take, most_held};
 ghost use Rattle.vx_push.specs.Handed.{Handed, zeros};
 ghost use Rattle.vx_push.specs.declared.intake.State.TheVariants.{Picture as Holds, Waits, NoMemory};
 ghost use Rattle.vx_push.specs.inner.Comes.{HasTaken, IsGoing, SeeksTo, StepsTo, StepsBehind, IsLeftAs, intaking, state_by, stopped_by};
@@ -25,7 +25,7 @@ pub(crate) fn seek(feed: &mut Feed) -> State
     ensures grows { feed.old.units ≤ feed.new.units }
     ensures units { result ≡ Holds → feed.old.units < feed.new.units }
     ensures few { result ≡ Holds → feed.new.units ≤ 2 ^ 40 }
-    ensures bytes { bytes_held feed.new ≤ 2 ^ 25 + 2 ^ 23 + 65538 }
+    ensures bytes { bytes_held feed.new ≤ most_held }
 {
     loop {
         if let Some(state) = step(feed) {
@@ -44,7 +44,7 @@ fn step(feed: &mut Feed) -> Option<State>
     ensures grows { feed.old.units ≤ feed.new.units }
     ensures units { result ≡ Some Holds → feed.old.units < feed.new.units }
     ensures few { result ≡ Some Holds → feed.new.units ≤ 2 ^ 40 }
-    ensures bytes { bytes_held feed.new ≤ 2 ^ 25 + 2 ^ 23 + 65538 }
+    ensures bytes { bytes_held feed.new ≤ most_held }
 {
     match feed.next() {
         Ok(Some(taken)) => state_of(feed, taken),
@@ -95,7 +95,7 @@ pub(crate) fn give_zeros(feed: &mut Feed) -> State
     ensures grows { feed.old.units ≤ feed.new.units }
     ensures units { result ≡ Holds → feed.old.units < feed.new.units }
     ensures few { result ≡ Holds → feed.new.units ≤ 2 ^ 40 }
-    ensures bytes { bytes_held feed.new ≤ 2 ^ 25 + 2 ^ 23 + 65538 }
+    ensures bytes { bytes_held feed.new ≤ most_held }
 {
     match feed.feed(&[0, 0, 0]) {
         Ok(_count) => seek(feed),
@@ -114,7 +114,7 @@ pub(crate) fn give_end(feed: &mut Feed) -> State
     ensures grows { feed.old.units ≤ feed.new.units }
     ensures units { result ≡ Holds → feed.old.units < feed.new.units }
     ensures few { result ≡ Holds → feed.new.units ≤ 2 ^ 40 }
-    ensures bytes { bytes_held feed.new ≤ 2 ^ 25 + 2 ^ 23 + 65538 }
+    ensures bytes { bytes_held feed.new ≤ most_held }
 {
     feed.finish();
     seek(feed)
@@ -129,7 +129,7 @@ pub(crate) fn go_on(feed: &mut Feed, flushed: &mut bool, ended: bool) -> State
     ensures unended { result ≡ Waits → ended ≡ false }
     ensures units { result ≡ Holds → feed.old.units < feed.new.units }
     ensures few { result ≡ Holds → feed.new.units ≤ 2 ^ 40 }
-    ensures bytes { bytes_held feed.new ≤ 2 ^ 25 + 2 ^ 23 + 65538 }
+    ensures bytes { bytes_held feed.new ≤ most_held }
 {
     let state = seek(feed);
     if !waits(state) {
@@ -157,7 +157,7 @@ fn give_owed(feed: &mut Feed, flushed: &mut bool) -> State
     ensures grows { feed.old.units ≤ feed.new.units }
     ensures units { result ≡ Holds → feed.old.units < feed.new.units }
     ensures few { result ≡ Holds → feed.new.units ≤ 2 ^ 40 }
-    ensures bytes { bytes_held feed.old ≤ 2 ^ 25 + 2 ^ 23 + 65538 → bytes_held feed.new ≤ 2 ^ 25 + 2 ^ 23 + 65538 }
+    ensures bytes { bytes_held feed.old ≤ most_held → bytes_held feed.new ≤ most_held }
 {
     if !*flushed {
         return State::Waits;

@@ -17,7 +17,7 @@ use Rattle.vx_assemble.specs.declared.feed.Taken.TheVariants.{Nal, End}
 use Rattle.vx_assemble.specs.declared.feed.FeedFault.{FeedFault}
 use Rattle.vx_assemble.specs.declared.feed.FeedFault.TheVariants as faults
 use Rattle.vx_assemble.specs.Held.{HasPicture, ShowsLatest, lent_by}
-use Rattle.vx_assemble.specs.Feed.{Feeding, HasFed, IsOpen, IsRefusedFor, bytes_held, seen_of}
+use Rattle.vx_assemble.specs.Feed.{Feeding, HasFed, IsOpen, IsRefusedFor, bytes_held, most_held, seen_of}
 use Rattle.vx_run.specs.Extract.{BeginsWithPictures}
 use Rattle.vx_push.specs.Handed.{Handed, OfEachStream, zeros}
 use Rattle.vx_push.specs.declared.intake.State.{State}
@@ -46,6 +46,12 @@ Owes None flushed ended owed = owed ≡ zeros_if flushed
 Owes (Some closed.End) flushed ended owed = (owed ≡ []) × (ended ≡ true)
 Owes (Some closed.TooLong) flushed ended owed = Unit {0}
 Owes (Some closed.Failed) flushed ended owed = Unit {0}
+
+-- more was handed in, or the end
+pub record IsMore (h more : Handed) : Type 0 where
+  pub piece : List ℕ
+  pub bytes : more.bytes ≡ h.bytes ++ piece
+  pub all : h.all ≡ true → (more.all ≡ true) × (piece ≡ [])
 
 -- its feed was given these bytes, and took units of these pictures
 pub record HasTaken (R : Readers) (f : Feeding) (g : List ℕ) (ps : List Picture) : Type 0 where
@@ -84,7 +90,7 @@ IsReady i state = Unit {0}
 -- what it keeps to
 pub record IsInStep (i : Intaking) : Type 0 where
   pub ready : IsReady i i.state
-  pub bytes : bytes_held i.feed ≤ 2 ^ 25 + 2 ^ 23 + 65538
+  pub bytes : bytes_held i.feed ≤ most_held
 
 -- ---- between its steps
 
@@ -139,15 +145,9 @@ pub record StillSeeks (old f : Feeding) : Type 0 where
 abbrev pub state_by : Taken → Option State
 state_by End = Some states.Ended
 state_by (Nal header place bytes accepted.PictureDone) = Some states.Picture
-state_by (Nal header place bytes accepted.Nothing) = None
-state_by (Nal header place bytes accepted.Vps) = None
-state_by (Nal header place bytes (accepted.Sps id)) = None
-state_by (Nal header place bytes (accepted.Pps id)) = None
-state_by (Nal header place bytes (accepted.Aps kind id)) = None
+state_by (Nal header place bytes what) = None
 
 -- or why it took nothing, behind so many units
 abbrev pub stopped_by : FeedFault → ℕ → State
 stopped_by (faults.Refused r) n = states.Refused r n
-stopped_by faults.Memory n = states.NoMemory
-stopped_by faults.SourceFailed n = states.NoMemory
-stopped_by (faults.Stopped first) n = states.NoMemory
+stopped_by fault n = states.NoMemory

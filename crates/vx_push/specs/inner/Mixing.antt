@@ -24,6 +24,7 @@ use Rattle.vx_push.specs.declared.intake.State.TheVariants.{Waits as AtWait, Pic
 use Rattle.vx_push.specs.declared.mixer.Mixed.{Mixed}
 use Rattle.vx_push.specs.declared.mixer.Mixed.TheVariants.{Waits as ToWait, Ended as ToEnd, Stopped as ToStop}
 use Rattle.vx_push.specs.Comes.{Intaking, Handed, HasCome, nothing}
+use Rattle.vx_push.specs.inner.Comes.{IsMore}
 use Rattle.vx_push.specs.Mixing.{HasComeBehind}
 
 -- ---- one source
@@ -110,13 +111,7 @@ end_by _ = None
 
 -- ---- what goes on
 
--- more was handed in, or the end
-pub record IsMore (h more : Handed) : Type 0 where
-  pub piece : List ℕ
-  pub bytes : more.bytes ≡ h.bytes ++ piece
-  pub all : h.all ≡ true → (more.all ≡ true) × (piece ≡ [])
-
--- of each, or of some
+-- more was handed in of each, or of some
 pub record AreMore (given more : List Handed) : Type 0 where
   pub count : length more ≡ length given
   pub each : (k : ℕ) (h : Handed) → slice_get given k ≡ Some h → (later : Handed) × (slice_get more k ≡ Some later) × IsMore h later

@@ -1,8 +1,9 @@
-use Rattle.std.proofs.Common.{rules, ◌≡◌, ◌↔◌, length, map, vec_len, subst, arith}
+use Rattle.std.proofs.Common.{rules, ◌≡◌, ◌↔◌, ℕ, List, [], Option, Some, length, map, vec_len, ap, refl, subst, arith}
 use Rattle.vx_run.specs.Grammar.{IsUnderstood, NamesFiles, texts}
 use Rattle.vx_c.specs.InMemory.{AreStreams}
 use Rattle.vx_c.specs.InMemory as caller
 use Rattle.vx_c.proofs.Streams.{counted}
+use Rattle.vx_c.proofs.Telling.{tells_why}
 use Rattle.vx_c.proofs.whole.run_in_memory.Goals as goal
 
 pub run-status-requires : goal.run-status-requires
@@ -20,3 +21,9 @@ returns-clause-words c =
     let exact = c.status_2_is_exact.ensures (texts c.deref-2.result.now) _ _ c.run-status.result _ c.run-status.ensures.ends in
     let words : texts c.deref-2.result.now ≡ caller.words_in c.args.words.now = search rules in
     subst (λ ws. (c.run-status.result ≡ 2) ↔ ¬ IsUnderstood ws) words exact
+
+pub returns-clause-tells : goal.returns-clause-tells
+returns-clause-tells c =
+    let ends = c.run-status.ensures.ends in
+    let none : c.in_ok-err.err.taken ≡ [] = search rules in
+    tells_why _ c.run-status.new.err.taken (ap (λ (l : List ℕ). let o : Option (List ℕ) = Some l in o) none) refl ends.0 _ ends.2

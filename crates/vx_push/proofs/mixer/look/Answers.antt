@@ -1,4 +1,4 @@
-use Rattle.std.proofs.Common.{List, Bool, inl, inr, subst}
+use Rattle.std.proofs.Common.{List, Bool, inl, subst}
 use Rattle.std.proofs.lemmas.Result.{err_from_is_err_and}
 use Rattle.vx_merge.specs.declared.ended.Lengths.TheVariants.{AllGo}
 use Rattle.vx_merge.specs.Ends.{IsLengths}

@@ -1,4 +1,4 @@
-use Rattle.std.proofs.Common.{◌≡◌, ◌<◌, length, slice_get, Some, refl, subst, arith}
+use Rattle.std.proofs.Common.{◌≡◌, ◌<◌, length, refl, subst, arith}
 use Rattle.std.proofs.lemmas.Option.{slice_get_read}
 use Rattle.std.proofs.lemmas.Result.{err_from_is_err_and}
 use Rattle.vx_push.specs.declared.intake.State.{State}

@@ -1,4 +1,4 @@
-use Rattle.std.proofs.Common.{◌∙◌, Some, ap, sym}
+use Rattle.std.proofs.Common.{◌∙◌, ap, sym}
 use Rattle.vx_io.specs.Memory.{Growth}
 use Rattle.vx_pic.specs.Parts.{Parts}
 use Rattle.vx_push.specs.inner.Mixing.{round_of}

@@ -1,4 +1,4 @@
-use Rattle.std.proofs.Common.{◌≡◌, true, false, rules}
+use Rattle.std.proofs.Common.{◌≡◌, true, rules}
 use Rattle.vx_push.specs.declared.intake.State.TheVariants.{Waits}
 use Rattle.vx_push.proofs.Coming.{steps_on, steps_end}
 use Rattle.vx_push.proofs.seek.go_on.Goals as goal

@@ -1,11 +1,12 @@
-use Rattle.std.proofs.Common.{refl}
-use Rattle.vx_push.proofs.Cutting.{cut_ended}
+use Rattle.vx_push.proofs.Cutting.{cut_handed}
+use Rattle.vx_push.proofs.Handing.{takes_end}
 use Rattle.vx_push.proofs.cutter.Cutter.end.Goals as goal
 
 pub returns : goal.returns
 returns c = record {
   cut = λ R of t h ps done cut.
-      rw (← c.self.view_is)
-      (cut_ended R t _ c.end.new.self h ps done (rw (← c.self.view_is) at cut) c.self.inside.intake.state refl
-      (λ waits qs come. c.end.ensures.comes waits R of h qs come) (λ holds qs come. c.end.ensures.later holds R h qs come) c.end.ensures.holds c.end.ensures.kept);
+      let was = rw (← c.self.view_is) at cut in
+      let e = c.end.ensures in
+      cut_handed R t _ c.end.new.self h _ ps done was
+      (takes_end R c.self.inside.intake c.end.new.self h ps was.come (λ waits. e.comes waits R of h) (λ holds. e.later holds R h) e.holds e.kept);
 }

@@ -3,7 +3,8 @@ use Rattle.std.proofs.lemmas.Result.{err_from_is_err_and}
 use Rattle.vx_pic.specs.Parts.{Parts}
 use Rattle.vx_push.specs.Cutting.{Cutting}
 use Rattle.vx_push.specs.inner.Cutting.{Cuts, StepsTo}
-use Rattle.vx_push.proofs.Cutting.{halts, cut_not, cut_kept, few_held}
+use Rattle.vx_push.proofs.Cutting.{halts, cut_not, cut_kept}
+use Rattle.vx_push.proofs.Few.{few_held}
 use Rattle.vx_push.proofs.cutter.Cutter.step.Goals as goal
 
 pub returns-in_err-look-clause-answer : goal.returns-in_err-look-clause-answer

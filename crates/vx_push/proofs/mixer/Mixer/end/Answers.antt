@@ -10,4 +10,4 @@ returns-clause-handed c =
     let within : c.args.source < length intakes = omega (arith, c.if-source-len.false, c.len.ensures) in
     let at = slice_get_read intakes (length intakes) c.args.source i refl within c.index_mut.ensures.value in
     let e = c.end.ensures in
-    rw (← c.self.view_is) (end_hands _ c.args.source i c.end.new.self at e.comes e.later e.holds e.kept)
+    rw (← c.self.view_is) (end_hands _ c.args.source i c.end.new.self at e.kept e.comes e.later e.holds)

@@ -10,4 +10,4 @@ returns-clause-handed c =
     let within : c.args.source < length intakes = omega (arith, c.if-source-len.false, c.len.ensures) in
     let at = slice_get_read intakes (length intakes) c.args.source i refl within c.index_mut.ensures.value in
     let e = c.flush.ensures in
-    rw (← c.self.view_is) (flush_hands _ c.args.source i c.flush.new.self at e.comes e.later e.holds e.once e.ended e.kept)
+    rw (← c.self.view_is) (flush_hands _ c.args.source i c.flush.new.self at e.kept e.comes e.later e.holds e.once e.ended)

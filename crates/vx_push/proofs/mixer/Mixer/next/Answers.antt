@@ -1,15 +1,10 @@
-use Rattle.std.proofs.Common.{◌≡◌, ℕ, ◌+◌, ◌<◌, List, ◌∙◌, None, Some, Option, Ok, Err, Result, length, refl, sym, ap, subst, arith}
+use Rattle.std.proofs.Common.{◌≡◌, ◌+◌, ◌<◌, List, ◌∙◌, Ok, Err, length, refl, sym, subst, arith}
 use Rattle.std.specs.List.{All}
-use Rattle.vx_pic.specs.declared.kind.Kind.{Kind}
-use Rattle.vx_pic.specs.Parts.{Parts}
-use Rattle.vx_run.specs.declared.stop.Stop.{Stop}
 use Rattle.vx_run.proofs.Advancing.{each_holds}
 use Rattle.vx_run.proofs.Indexed.{some_at}
 use Rattle.vx_push.specs.declared.intake.State.TheVariants.{Picture as AtPicture}
-use Rattle.vx_push.specs.declared.mixer.Mixed.{Mixed}
 use Rattle.vx_push.specs.Comes.{Intaking}
-use Rattle.vx_push.specs.Mixing.{Mixing}
-use Rattle.vx_push.specs.inner.Mixing.{AreSeen, Looks, MergesHanded, HavePassed, round_of}
+use Rattle.vx_push.specs.inner.Mixing.{Looks, MergesHanded, round_of}
 use Rattle.vx_push.proofs.Few.{few_behind}
 use Rattle.vx_push.proofs.Mixing.{ready_all, answers_looked, answers_barred, answers_merged}
 use Rattle.vx_push.proofs.mixer.Mixer.next.Goals as goal

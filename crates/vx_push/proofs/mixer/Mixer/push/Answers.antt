@@ -3,7 +3,7 @@ use Rattle.std.proofs.lemmas.Option.{slice_get_read, same_Some}
 use Rattle.vx_run.proofs.Indexed.{set_there}
 use Rattle.vx_push.specs.Comes.{Intaking}
 use Rattle.vx_push.specs.Mixing.{Takes}
-use Rattle.vx_push.proofs.Mixing.{push_hands}
+use Rattle.vx_push.proofs.Mixing.{push_hands, mixed_waits_no_more}
 use Rattle.vx_push.proofs.mixer.Mixer.push.Goals as goal
 
 pub returns-clause-handed : goal.returns-clause-handed
@@ -26,3 +26,11 @@ returns-clause-count c = (
       let new : c.push.new.self ≡ later = set_there intakes c.args.source c.push.new.self later there in
       subst (λ (y : Intaking). Takes i y (length c.args.piece.now) c.push.result) new (subst (λ (y : Intaking). Takes y c.push.new.self (length c.args.piece.now) c.push.result) old (c.push.ensures.count, c.push.ensures.kept)),
 )
+
+pub returns-clause-ended : goal.returns-clause-ended
+returns-clause-ended c R given done h mixed there all =
+    let intakes = c.self.inside.intakes.items in
+    let i = c.index_mut.result.now in
+    let within : c.args.source < length intakes = omega (arith, c.if-source-len.false, c.len.ensures) in
+    let at = slice_get_read intakes (length intakes) c.args.source i refl within c.index_mut.ensures.value in
+    (c.push.ensures.kept (mixed_waits_no_more R _ given done c.args.source i h (rw (← c.self.view_is) at mixed) at there all)).0

@@ -1,0 +1,71 @@
+//! A picture that was written, until it is taken.
+ghost use Rattle.std.specs.Prelude.{◌≡◌, ◌⊎◌, ◌<◌, ◌++◌, [], length, drop, Some, None, IfSome, OnSome, IfNone};
+
+use std::alloc::Global;
+use vx_io::GrowSink;
+use vx_pic::Kind;
+
+/// A picture that was written.
+#[derive(Clone, Copy, Debug, PartialEq, Eq)]
+pub struct WrittenPicture {
+    /// Its number, from 0: among the rounds of a merge, or among the pictures of a source, whether or not those are kept.
+    pub number: u64,
+    /// How many bytes are written of it.
+    pub bytes: usize,
+    /// What it is among the pictures of its stream.
+    pub kind: Kind,
+}
+
+/// What is written of a picture, and what it is, until it is taken.
+#[derive(Drop)]
+pub(crate) struct Store {
+    pub(crate) alloc: Global,
+    pub(crate) written: GrowSink,
+    pub(crate) held: Option<Kind>,
+}
+
+impl Store {
+    /// One that holds no picture.
+    pub(crate) fn new(alloc: Global) -> Store
+        ensures written { result.written.taken ≡ [] }
+        ensures held { result.held ≡ None }
+    {
+        Store {
+            alloc,
+            written: GrowSink::new(alloc),
+            held: None,
+        }
+    }
+
+    /// The picture that it holds, of this number.
+    pub(crate) fn picture(&self, number: u64) -> Option<WrittenPicture>
+        ensures some { IfSome result (λ p. (self.now.held ≡ Some p.kind) × (p.number ≡ number) × (p.bytes ≡ length self.now.written.taken)) }
+        ensures none { IfNone result (self.now.held ≡ None) }
+    {
+        let kind = self.held?;
+        Some(WrittenPicture {
+            number,
+            bytes: self.written.bytes().len(),
+            kind,
+        })
+    }
+
+    /// Copies the bytes of the picture to the front of `into`, answers how many they are, and holds it no longer. None where it holds
+    /// none, or where `into` has too little room; then nothing changes.
+    pub(crate) fn take(&mut self, into: &mut [u8]) -> Option<usize>
+        ensures taken { IfSome result (λ n. (n ≡ length self.old.written.taken) × (into.new ≡ self.old.written.taken ++ drop n into.old)) }
+        ensures went { OnSome result ((self.new.held ≡ None) × (self.new.written.taken ≡ [])) }
+        ensures none { IfNone result ((self.old.held ≡ None) ⊎ (length into.old < length self.old.written.taken)) }
+        ensures kept { IfNone result ((self.new ≡ self.old) × (into.new ≡ into.old)) }
+        ensures store { (self.new ≡ self.old) ⊎ ((self.new.held ≡ None) × (self.new.written.taken ≡ [])) }
+    {
+        let count = self.written.bytes().len();
+        if self.held.is_none() || into.len() < count {
+            return None;
+        }
+        into[..count].copy_from_slice(self.written.bytes());
+        self.written = GrowSink::new(self.alloc);
+        self.held = None;
+        Some(count)
+    }
+}
