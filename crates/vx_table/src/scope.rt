@@ -75,20 +75,28 @@ impl Scope {
 
     /// The number of a term.
     #[inline(always)]
-    fn term(&self, term: Term) -> u32
-        ensures { result ≡ latest self.now term }
+    fn term(&self, term: &Term) -> u32
+        ensures { result ≡ latest self.now term.now }
     {
         match term {
-            Term::Number(number) => number,
-            Term::Latest(of) => self.latest(of),
+            Term::Number(number) => *number,
+            Term::Latest(of) => self.latest(*of),
         }
     }
 
     /// The number of a formula.
-    #[tactic(auto, unfolding(crate::specs::Scope::value))]
     #[inline(always)]
     pub fn value(&self, formula: Formula) -> u32
         ensures { result ≡ value self.now formula }
+    {
+        self.number(&formula)
+    }
+
+    /// The number of a formula that stands in a table.
+    #[tactic(auto, unfolding(crate::specs::Scope::value))]
+    #[inline(always)]
+    pub(crate) fn number(&self, formula: &Formula) -> u32
+        ensures { result ≡ value self.now formula.now }
     {
         match formula {
             Formula::Plain(a) => self.term(a),

@@ -1,9 +1,9 @@
 //! The walk over a table, for every coder.
 
-ghost use Rattle.std.specs.Prelude.{◌≡◌, ℕ, ℤ, ◌+◌, ◌≤◌, min, length, take, drop, Result};
+ghost use Rattle.std.specs.Prelude.{◌≡◌, ℕ, ℤ, ◌+◌, ◌≤◌, min, List, ◌∷◌, length, take, drop, Result, MatchOption, IfSome};
 ghost use Rattle.vx_table.specs.Scope.{value};
 ghost use Rattle.vx_table.specs.Forms as forms;
-ghost use Rattle.vx_table.specs.Forms.{coding_in, limits_at, cell_at, after, turns, present, form_of, one_field};
+ghost use Rattle.vx_table.specs.Forms.{Form, done, coding_in, limits_at, cell_at, after, turns, present, form_of, one_field};
 ghost use Rattle.vx_table.specs.Spelling.{IsCodable};
 ghost use Rattle.vx_table.specs.Walks.{Walks, leaving};
 
@@ -30,14 +30,23 @@ pub trait Coder<I> {
 }
 
 /// A field's coding at a scope.
-#[tactic(auto, unfolding(crate::specs::Forms::coding_at))]
 #[inline(always)]
 pub fn coding_at(scope: &Scope, coding: Coding<Formula>) -> Coding<u32>
     ensures value { result ≡ forms.coding_at scope.now coding }
     ensures width { IsCodable result }
 {
+    coding_in_scope(scope, &coding)
+}
+
+/// The same of a coding that stands in a table.
+#[tactic(auto, unfolding(crate::specs::Forms::coding_at))]
+#[inline(always)]
+fn coding_in_scope(scope: &Scope, coding: &Coding<Formula>) -> Coding<u32>
+    ensures value { result ≡ forms.coding_at scope.now coding.now }
+    ensures width { IsCodable result }
+{
     match coding {
-        Coding::Fixed(width) => Coding::Fixed(scope.value(width).min(32)),
+        Coding::Fixed(width) => Coding::Fixed(scope.number(width).min(32)),
         Coding::Golomb => Coding::Golomb,
         Coding::SignedGolomb => Coding::SignedGolomb,
         Coding::Zeros => Coding::Zeros,
@@ -85,34 +94,38 @@ pub fn coding_of(table: &[Row], field: u16) -> Option<Coding<Formula>>
 /// A field's range at a scope.
 #[tactic(auto, unfolding(crate::specs::Forms::limits_at))]
 #[inline(always)]
-fn limits(scope: &Scope, limits: Limits<Formula>) -> Limits<u32>
-    ensures { result ≡ limits_at scope.now limits }
+fn limits(scope: &Scope, limits: &Limits<Formula>) -> Limits<u32>
+    ensures { result ≡ limits_at scope.now limits.now }
 {
     match limits {
         Limits::Any => Limits::Any,
         Limits::Within { low, high, fault } => Limits::Within {
-            low,
-            high: scope.value(high),
-            fault,
+            low: *low,
+            high: scope.number(high),
+            fault: *fault,
         },
         Limits::Below { bound, fault } => Limits::Below {
-            bound: scope.value(bound),
-            fault,
+            bound: scope.number(bound),
+            fault: *fault,
         },
-        Limits::Multiple { unit, high, fault } => Limits::Multiple { unit, high, fault },
+        Limits::Multiple { unit, high, fault } => Limits::Multiple {
+            unit: *unit,
+            high: *high,
+            fault: *fault,
+        },
     }
 }
 
 /// A field at a scope.
 #[inline(always)]
-fn cell(scope: &Scope, row: Cell<Formula>) -> Cell<u32>
-    ensures { result ≡ cell_at scope.now row }
+fn cell(scope: &Scope, row: &Cell<Formula>) -> Cell<u32>
+    ensures { result ≡ cell_at scope.now row.now }
 {
     Cell {
         field: row.field,
         kept: row.kept,
-        coding: coding_at(scope, row.coding),
-        limits: limits(scope, row.limits),
+        coding: coding_in_scope(scope, &row.coding),
+        limits: limits(scope, &row.limits),
     }
 }
 
@@ -130,12 +143,12 @@ fn set_field(scope: &mut Scope, cell: Cell<u32>, value: i64)
 /// Codes one field, and gives the scope its value.
 #[inline(always)]
 fn code_field<I, C: Coder<I>>(
-    row: Cell<Formula>,
+    row: &Cell<Formula>,
     scope: &mut Scope,
     coder: &mut C,
     items: &mut I,
 ) -> Result<(), C::Fault>
-    ensures { Walks C.step (one_field scope.old row) coder.old items.old (leaving scope.new result) coder.new items.new }
+    ensures { Walks C.step (one_field scope.old row.now) coder.old items.old (leaving scope.new result) coder.new items.new }
 {
     let cell = cell(scope, row);
     let value = coder.code(items, cell)?;
@@ -153,6 +166,39 @@ pub(crate) fn split_block(rows: &[Row], inside: usize) -> (&[Row], &[Row])
     rows.split_at(inside.min(rows.len()))
 }
 
+/// The first of some rows and of others behind them, and which rows come after it.
+#[inline(always)]
+fn first_row<'a>(rows: &'a [Row], behind: &'a [Row]) -> Option<(&'a Row, &'a [Row], &'a [Row])>
+    ensures form { MatchOption result
+        ((s : List ℕ) → forms.◌>>=◌ (form_of rows.now s) (form_of behind.now) ≡ done s)
+        (λ r. (s : List ℕ) → forms.◌>>=◌ (form_of rows.now s) (form_of behind.now) ≡ forms.◌>>=◌ (form_of (r.0.now ∷ r.1.now) s) (form_of r.2.now)) }
+    ensures one { IfSome result (λ r. length r.1.now + length r.2.now + 1 ≡ length rows.now + length behind.now) }
+{
+    match rows.split_first() {
+        Some((row, rest)) => Some((row, rest, behind)),
+        None => match behind.split_first() {
+            Some((row, rest)) => Some((row, rest, &[])),
+            None => None,
+        },
+    }
+}
+
+/// The rows of both, where one of them has none.
+#[inline(always)]
+fn one_behind<'a>(next: &'a [Row], behind: &'a [Row]) -> Option<&'a [Row]>
+    ensures form { IfSome result
+        (λ all. (f : Form (List ℕ)) → forms.◌>>=◌ (forms.◌>>=◌ f (form_of next.now)) (form_of behind.now) ≡ forms.◌>>=◌ f (form_of all.now)) }
+    ensures all { IfSome result (λ all. length all.now ≡ length next.now + length behind.now) }
+{
+    if next.is_empty() {
+        return Some(behind);
+    }
+    if behind.is_empty() {
+        return Some(next);
+    }
+    None
+}
+
 /// Codes a table's rows in order.
 ///
 /// # Errors
@@ -168,8 +214,10 @@ pub fn code_table<I, C: Coder<I>>(
     ensures { Walks C.step (form_of table.now scope.old) coder.old items.old (leaving scope.new result) coder.new items.new }
 {
     let mut rows = table;
-    while let Some((row, rest)) = rows.split_first() {
-        rows = match *row {
+    let mut behind: &[Row] = &[];
+    while let Some((row, rest, last)) = first_row(rows, behind) {
+        behind = last;
+        rows = match row {
             Row::Field(field) => {
                 code_field(field, scope, coder, items)?;
                 rest
@@ -178,13 +226,29 @@ pub fn code_table<I, C: Coder<I>>(
                 presence,
                 rows: inside,
             } => {
-                let (block, behind) = split_block(rest, inside);
-                code_block(presence, block, scope, coder, items)?;
-                behind
+                let (block, next) = split_block(rest, *inside);
+                match presence {
+                    Presence::When(holds) => {
+                        if scope.number(holds) == 0 {
+                            next
+                        } else if let Some(all) = one_behind(next, last) {
+                            behind = all;
+                            block
+                        } else {
+                            code_table(block, scope, coder, items)?;
+                            next
+                        }
+                    }
+                    Presence::Repeat { counter, times } => {
+                        let times = scope.number(times);
+                        code_turns(block, *counter, times, scope, coder, items)?;
+                        next
+                    }
+                }
             }
             Row::Name { name, formula } => {
-                let number = scope.value(formula);
-                scope.set(name, number);
+                let number = scope.number(formula);
+                scope.set(*name, number);
                 rest
             }
         };
@@ -193,7 +257,6 @@ pub fn code_table<I, C: Coder<I>>(
 }
 
 /// Codes a block of rows as often as it is there.
-#[cycle(walk)]
 pub(crate) fn code_block<I, C: Coder<I>>(
     presence: Presence,
     block: &[Row],
