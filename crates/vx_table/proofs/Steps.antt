@@ -1,5 +1,5 @@
 -- A walk over a form, put together of its steps.
-use Rattle.std.proofs.Common.{◌≡◌, ℕ, ℤ, suc, ◌+◌, ◌-◌, ◌<◌, ◌≤◌, min, List, [], ◌∷◌, length, take, drop, slice_set, Result, Ok, Err, refl, ap, sym, arith, get_or, add-one, drop-cons}
+use Rattle.std.proofs.Common.{◌≡◌, ℕ, suc, ◌+◌, ◌-◌, ◌<◌, ◌≤◌, min, List, [], ◌∷◌, length, take, drop, slice_set, Result, Ok, Err, refl, ap, sym, arith, get_or, add-one, drop-cons}
 use Rattle.std.proofs.Math.ListN.{drop_of_length-le}
 use Rattle.std.proofs.Math.Path.{fun_ext}
 use Rattle.std.proofs.lemmas.Bool.{ne_eqb}
@@ -9,7 +9,7 @@ use Rattle.vx_table.specs.declared.rows.Row.{Row}
 use Rattle.vx_table.specs.declared.rows.Row.TheVariants.{Field, Block, Name}
 use Rattle.vx_table.specs.declared.rows.Presence.{Presence}
 use Rattle.vx_table.specs.declared.rows.Presence.TheVariants.{When, Repeat}
-use Rattle.vx_table.specs.Forms.{Form, done, field, ◌>>=◌, cell_at, after, one_field, turns, present, part, form_of}
+use Rattle.vx_table.specs.Forms.{Form, done, field, ◌>>=◌, one_field, turns, present, part, form_of}
 use Rattle.vx_table.specs.declared.parts.Part.{Part}
 use Rattle.vx_table.specs.Parts.{sections_form, section_form, section_of, parts_form}
 use Rattle.vx_table.specs.Scope.{value}
@@ -27,16 +27,6 @@ pub stop : {C I E A B : Type 0} {step : Step C I E} {f : Form A} (next : A → F
     → Walks step f c i (Err e) d j → Walks step (f >>= next) c i (Err e) d j
 stop next (coded s rest) = coded s (stop next rest)
 stop next (refused s) = refused s
-
-pub one_coded : {C I E : Type 0} {step : Step C I E} (s : List ℕ) (row : Cell Formula) {c d : C} {i j : I} (v : ℤ)
-    → step c i (cell_at s row) (Ok v) d j → Walks step (one_field s row) c i (Ok (after s (cell_at s row) v)) d j
-unfolding one_field
-one_coded s row v h = coded h ended
-
-pub one_refused : {C I E : Type 0} {step : Step C I E} (s : List ℕ) (row : Cell Formula) {c d : C} {i j : I} {e : E}
-    → step c i (cell_at s row) (Err e) d j → Walks step (one_field s row) c i (Err e) d j
-unfolding one_field
-one_refused s row h = refused h
 
 -- Whatever follows this rest of a form, from this coder and these items on, completes the whole.
 pub record Leads {C I E A : Type 0} (step : Step C I E) (whole : Form A) (first : C) (first_items : I) (rest : Form A) (c : C) (i : I) : Type 0 where

@@ -9,11 +9,7 @@ ghost use Rattle.vx_table.specs.Scope as numbers;
 pub fn natural(value: i64) -> u32
     ensures { result ≡ numbers.natural value }
 {
-    if value < 0 {
-        0
-    } else {
-        u32::try_from(value).unwrap_or(u32::MAX)
-    }
+    value.max(0).min(i64::from(u32::MAX)) as u32
 }
 
 /// The quotient, rounded up; 0 where the divisor is 0.

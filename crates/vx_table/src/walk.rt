@@ -8,7 +8,7 @@ ghost use Rattle.vx_table.specs.Spelling.{IsCodable};
 ghost use Rattle.vx_table.specs.Walks.{Walks, leaving};
 
 use crate::arithmetic::natural;
-use crate::rows::{Cell, Coding, Formula, Limits, Presence, Row};
+use crate::rows::{Cell, Coding, Formula, Limits, Presence, Row, Term};
 use crate::scope::Scope;
 
 /// What codes the fields of a structure, one after another: a reader from bits to items, a writer from items to bits.
@@ -140,6 +140,42 @@ fn set_field(scope: &mut Scope, cell: Cell<u32>, value: i64)
     }
 }
 
+/// A field of one bit and any value, which is the same at every scope.
+#[tactic(auto, unfolding(crate::specs::Forms::coding_at, crate::specs::Forms::limits_at, crate::specs::Scope::value))]
+#[inline(always)]
+fn flag(row: &Cell<Formula>) -> Option<Cell<u32>>
+    ensures { IfSome result (λ cell. (s : List ℕ) → cell ≡ cell_at s row.now) }
+{
+    let Coding::Fixed(Formula::Plain(Term::Number(1))) = row.coding else {
+        return None;
+    };
+    let Limits::Any = row.limits else {
+        return None;
+    };
+    Some(Cell {
+        field: row.field,
+        kept: row.kept,
+        coding: Coding::Fixed(1),
+        limits: Limits::Any,
+    })
+}
+
+/// Codes one field at a scope, and gives that its value.
+#[inline(always)]
+fn code_cell<I, C: Coder<I>>(
+    cell: Cell<u32>,
+    scope: &mut Scope,
+    coder: &mut C,
+    items: &mut I,
+) -> Result<(), C::Fault>
+    requires { IsCodable cell.coding }
+    ensures { Walks C.step (forms.field cell (λ v. done (after scope.old cell v))) coder.old items.old (leaving scope.new result) coder.new items.new }
+{
+    let value = coder.code(items, cell)?;
+    set_field(scope, cell, value);
+    Ok(())
+}
+
 /// Codes one field, and gives the scope its value.
 #[inline(always)]
 fn code_field<I, C: Coder<I>>(
@@ -150,10 +186,11 @@ fn code_field<I, C: Coder<I>>(
 ) -> Result<(), C::Fault>
     ensures { Walks C.step (one_field scope.old row.now) coder.old items.old (leaving scope.new result) coder.new items.new }
 {
+    if let Some(flag) = flag(row) {
+        return code_cell(flag, scope, coder, items);
+    }
     let cell = cell(scope, row);
-    let value = coder.code(items, cell)?;
-    set_field(scope, cell, value);
-    Ok(())
+    code_cell(cell, scope, coder, items)
 }
 
 /// The rows of a block, which are at most those that are left, and the rows behind it.
