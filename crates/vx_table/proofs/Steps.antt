@@ -136,6 +136,13 @@ module _ {C I E : Type 0} {step : Step C I E} {whole : Form (List ℕ)} {first :
   unfolding present
   leads-over holds n rows behind s none before = rw none at (rw form-block at before)
 
+  -- and so is one in no turns
+  pub leads-no_turns : (counter : ℕ) (times : Formula) (n : ℕ) (rows behind : List Row) (s : List ℕ) {c : C} {i : I} → value s times ≡ 0
+      → Leads step whole first first_items (form_of (Block (Repeat counter times) n ∷ rows) s >>= form_of behind) c i
+      → Leads step whole first first_items (form_of (drop (min n (length rows)) rows) s >>= form_of behind) c i
+  unfolding present turns
+  leads-no_turns counter times n rows behind s none before = rw none at (rw form-block at before)
+
   -- one that is there is gone into, and what is left behind it comes after it
   pub leads-into : (holds : Formula) (n : ℕ) (rows behind all : List Row) (s : List ℕ) {c : C} {i : I} → (value s holds ≡ 0 → ⊥)
       → ((f : Form (List ℕ)) → ((f >>= form_of (drop (min n (length rows)) rows)) >>= form_of behind) ≡ (f >>= form_of all))

@@ -33,7 +33,7 @@ pub fn code_parts<I, C: Coder<I>>(
     ensures { Walks C.step (parts_form parts.now scope.old) coder.old items.old (leaving scope.new result) coder.new items.new }
 {
     for part in parts {
-        code_block(part.presence, part.rows, scope, coder, items)?;
+        code_block(&part.presence, part.rows, scope, coder, items)?;
     }
     Ok(())
 }

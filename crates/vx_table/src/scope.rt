@@ -92,10 +92,21 @@ impl Scope {
         self.number(&formula)
     }
 
-    /// The number of a formula that stands in a table.
+    /// The number of a formula that stands in a table; most are terms.
     #[tactic(auto, unfolding(crate::specs::Scope::value))]
     #[inline(always)]
     pub(crate) fn number(&self, formula: &Formula) -> u32
+        ensures { result ≡ value self.now formula.now }
+    {
+        if let Formula::Plain(a) = formula {
+            return self.term(a);
+        }
+        self.computed(formula)
+    }
+
+    /// The number of any formula, which is worked out in one place.
+    #[tactic(auto, unfolding(crate::specs::Scope::value))]
+    fn computed(&self, formula: &Formula) -> u32
         ensures { result ≡ value self.now formula.now }
     {
         match formula {

@@ -278,8 +278,12 @@ pub fn code_table<I, C: Coder<I>>(
                     }
                     Presence::Repeat { counter, times } => {
                         let times = scope.number(times);
-                        code_turns(block, *counter, times, scope, coder, items)?;
-                        next
+                        if times == 0 {
+                            next
+                        } else {
+                            code_turns(block, *counter, times, scope, coder, items)?;
+                            next
+                        }
                     }
                 }
             }
@@ -295,24 +299,24 @@ pub fn code_table<I, C: Coder<I>>(
 
 /// Codes a block of rows as often as it is there.
 pub(crate) fn code_block<I, C: Coder<I>>(
-    presence: Presence,
+    presence: &Presence,
     block: &[Row],
     scope: &mut Scope,
     coder: &mut C,
     items: &mut I,
 ) -> Result<(), C::Fault>
-    ensures { Walks C.step (present presence (form_of block.now) scope.old) coder.old items.old (leaving scope.new result) coder.new items.new }
+    ensures { Walks C.step (present presence.now (form_of block.now) scope.old) coder.old items.old (leaving scope.new result) coder.new items.new }
 {
     match presence {
         Presence::When(holds) => {
-            if scope.value(holds) == 0 {
+            if scope.number(holds) == 0 {
                 return Ok(());
             }
             code_table(block, scope, coder, items)
         }
         Presence::Repeat { counter, times } => {
-            let times = scope.value(times);
-            code_turns(block, counter, times, scope, coder, items)
+            let times = scope.number(times);
+            code_turns(block, *counter, times, scope, coder, items)
         }
     }
 }

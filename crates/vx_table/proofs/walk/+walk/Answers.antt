@@ -1,7 +1,7 @@
 use Rattle.std.proofs.Common.{arith, sym, ◌∙◌}
 use Rattle.std.proofs.lemmas.Result.{err_from_is_err_and}
 use Rattle.vx_table.specs.Forms.{form_of}
-use Rattle.vx_table.proofs.Steps.{leads, leads-end, no_rows_behind, leads-field, stop-field, leads-block, stop-block, leads-over, leads-into, leads-name, leads-turn, stop-turn, leads-no_turn, here, around}
+use Rattle.vx_table.proofs.Steps.{leads, leads-end, no_rows_behind, leads-field, stop-field, leads-block, stop-block, leads-over, leads-no_turns, leads-into, leads-name, leads-turn, stop-turn, leads-no_turn, here, around}
 use Rattle.vx_table.proofs.walk.+walk.Goals as goal
 
 pub code_table-loop-row-init : goal.code_table-loop-row-init
@@ -52,6 +52,12 @@ code_table-returns-in_err-code_table-in-When g t c =
     let walked = rw (c.in_err-code_table-in-When.was, c.split_block.ensures.block) at c.code_table.ensures in
     let p = err_from_is_err_and c.from_residual-in_err-code_table-in-When.result c.from_residual-in_err-code_table-in-When.ensures.1 in
     rw (p.1, p.2) (stop-block _ _ _ _ _ before (here _ _ _ some walked))
+
+pub code_table-loop-row-preserved-then-times-eq0 : goal.code_table-loop-row-preserved-then-times-eq0
+code_table-loop-row-preserved-then-times-eq0 g t c =
+    let before = rw (c.in-Some.ensures.form, c.in-Block.is, c.in-Repeat.is) at c.loop-row.invariant.1 in
+    let none = sym c.number-times.ensures ∙ c.if-times-eq0.true in
+    (omega (arith, c.in-Some.ensures.one, c.split_block.ensures.all, c.loop-row.invariant.0), rw c.split_block.ensures.behind (leads-no_turns _ _ _ _ _ _ none before))
 
 pub code_table-loop-row-preserved-in_ok-code_turns-in-Repeat :
     goal.code_table-loop-row-preserved-in_ok-code_turns-in-Repeat

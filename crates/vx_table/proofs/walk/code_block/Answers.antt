@@ -4,14 +4,14 @@ use Rattle.vx_table.specs.Forms.{present}
 use Rattle.vx_table.specs.Walks.{ended}
 use Rattle.vx_table.proofs.walk.code_block.Goals as goal
 
-pub returns-then-value-eq0 : goal.returns-then-value-eq0
+pub returns-then-number-eq0 : goal.returns-then-number-eq0
 unfolding present
-returns-then-value-eq0 g c = rw (c.in-When.is, sym c.value.ensures ∙ c.if-value-eq0.true) ended
+returns-then-number-eq0 g c = rw (c.in-When.is, sym c.number.ensures ∙ c.if-number-eq0.true) ended
 
-pub returns-else-value-eq0 : goal.returns-else-value-eq0
+pub returns-else-number-eq0 : goal.returns-else-number-eq0
 unfolding present
-returns-else-value-eq0 g c = rw (c.in-When.is, ne_eqb _ _ (rw c.value.ensures at c.if-value-eq0.false)) c.code_table.ensures
+returns-else-number-eq0 g c = rw (c.in-When.is, ne_eqb _ _ (rw c.number.ensures at c.if-number-eq0.false)) c.code_table.ensures
 
 pub returns-in-Repeat : goal.returns-in-Repeat
 unfolding present
-returns-in-Repeat g c = rw (c.in-Repeat.is, sym c.value-times.ensures) c.code_turns.ensures
+returns-in-Repeat g c = rw (c.in-Repeat.is, sym c.number-times.ensures) c.code_turns.ensures
