@@ -4,7 +4,7 @@ use Rattle.std.specs.List.{AllByRecursion}
 use Rattle.vx_bits.specs.declared.list.Item.{Item}
 use Rattle.vx_fields.specs.declared.sps.TheConstants as sps_fields
 use Rattle.vx_fields.specs.declared.ph.TheConstants as ph
-use Rattle.vx_table.specs.Depends.{has, set_of}
+use Rattle.vx_table.specs.Depends.{has}
 use Rattle.vx_table.specs.Loaded.{number}
 use Rattle.vx_table.specs.Scope.{fresh}
 use Rattle.vx_table.specs.Shown.{shown_items}
@@ -40,15 +40,15 @@ of_parts P (q ∷ pics) all = (all.0, of_parts P pics all.1)
 
 -- ---- numbers of kept fields
 
-header_number : (of : ℕ) (a b : List Item) → IsTrue (has (set_of ph_kept.kept_ph_fields) of)
-    → shown_items (set_of ph_kept.kept_ph_fields) a ≡ shown_items (set_of ph_kept.kept_ph_fields) b → number a of ≡ number b of
-header_number of a b is same = number_of_shown (set_of ph_kept.kept_ph_fields) of a is ∙ ap (λ xs. number xs of) same
-    ∙ sym (number_of_shown (set_of ph_kept.kept_ph_fields) of b is)
+header_number : (of : ℕ) (a b : List Item) → IsTrue (has ph_kept.kept_ph_fields of)
+    → shown_items ph_kept.kept_ph_fields a ≡ shown_items ph_kept.kept_ph_fields b → number a of ≡ number b of
+header_number of a b is same = number_of_shown ph_kept.kept_ph_fields of a is ∙ ap (λ xs. number xs of) same
+    ∙ sym (number_of_shown ph_kept.kept_ph_fields of b is)
 
-sps_number : (of : ℕ) (a b : List Item) → IsTrue (has (set_of sps_kept.kept_sps_fields) of) → sps_kept.kept_sps_items a ≡ sps_kept.kept_sps_items b
+sps_number : (of : ℕ) (a b : List Item) → IsTrue (has sps_kept.kept_sps_fields of) → sps_kept.kept_sps_items a ≡ sps_kept.kept_sps_items b
     → number a of ≡ number b of
-sps_number of a b is same = number_of_shown (set_of sps_kept.kept_sps_fields) of a is ∙ ap (λ xs. number xs of) same
-    ∙ sym (number_of_shown (set_of sps_kept.kept_sps_fields) of b is)
+sps_number of a b is same = number_of_shown sps_kept.kept_sps_fields of a is ∙ ap (λ xs. number xs of) same
+    ∙ sym (number_of_shown sps_kept.kept_sps_fields of b is)
 
 record TellsAlike (b : Begun) (q : Parts) : Type 0 where
   lsb : lsb_of q.header.fields ≡ lsb_of b.header
@@ -56,7 +56,7 @@ record TellsAlike (b : Begun) (q : Parts) : Type 0 where
   non_ref : is_non_ref q.header.fields ≡ is_non_ref b.header
   max : max_lsb q.sps ≡ max_lsb b.sps
 
-tells_alike : (b : Begun) (q : Parts) → shown_items (set_of ph_kept.kept_ph_fields) q.header.fields ≡ shown_items (set_of ph_kept.kept_ph_fields) b.header
+tells_alike : (b : Begun) (q : Parts) → shown_items ph_kept.kept_ph_fields q.header.fields ≡ shown_items ph_kept.kept_ph_fields b.header
     → sps_kept.kept_sps_items q.sps ≡ sps_kept.kept_sps_items b.sps → TellsAlike b q
 unfolding lsb_of msb_cycle is_non_ref max_lsb fresh
 tells_alike b q header sps =

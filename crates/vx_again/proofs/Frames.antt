@@ -7,7 +7,7 @@ use Rattle.std.proofs.lemmas.List.FromFn.{get_or-map-range_with_len}
 use Rattle.vx_bits.specs.declared.list.Item.{Item}
 use Rattle.vx_fields.specs.declared.sps.TheConstants as sps_fields
 use Rattle.vx_fields.specs.declared.pps.TheConstants as pps_fields
-use Rattle.vx_table.specs.Depends.{has, set_of}
+use Rattle.vx_table.specs.Depends.{has}
 use Rattle.vx_table.specs.Loaded.{number}
 use Rattle.vx_table.specs.Scope.{fresh, is_set}
 use Rattle.vx_table.proofs.Loading.{number_of_shown}
@@ -121,9 +121,9 @@ module _ (tells : SetsTellPartitions) (reads : ReadSlicesAreListable) (corners :
 
   -- ---- CTUs
 
-  taken : (of : ℕ) → IsTrue (has (set_of taken_sps_fields) of) → number s of ≡ number first.sps of
-  taken of has_ = number_of_shown (set_of taken_sps_fields) of s has_ ∙ ap (λ xs. number xs of) sets.of_sps.shown_ones
-      ∙ sym (number_of_shown (set_of taken_sps_fields) of first.sps has_)
+  taken : (of : ℕ) → IsTrue (has taken_sps_fields of) → number s of ≡ number first.sps of
+  taken of has_ = number_of_shown taken_sps_fields of s has_ ∙ ap (λ xs. number xs of) sets.of_sps.shown_ones
+      ∙ sym (number_of_shown taken_sps_fields of first.sps has_)
 
   ctus_agree : ctu_sizes_differ s p ≡ false
   unfolding ctu_sizes_differ fresh

@@ -7,7 +7,6 @@ use Rattle.std.proofs.lemmas.Option.{none-some, same_Some}
 use Rattle.vx_bits.specs.declared.list.Item.{Item}
 use Rattle.vx_fields.specs.declared.ph.TheConstants as ph
 use Rattle.vx_fields.specs.declared.sps.TheConstants as sps_fields
-use Rattle.vx_table.specs.Depends.{set_of}
 use Rattle.vx_table.specs.Loaded.{number}
 use Rattle.vx_table.specs.Scope.{fresh, is_set}
 use Rattle.vx_table.proofs.With.{others_with, with_field}
@@ -173,7 +172,7 @@ module _ (tells : SetsTellPartitions) (reads : ReadSlicesAreListable) (has_filte
   unfolding fresh
   header_lmcs =
       lmcs_named (is_set (number p.begun.sps sps_fields.sps_lmcs_enabled_flag)) (number p.begun.sps sps_fields.sps_chroma_format_idc) (option_map (lmcs_shape round) (slice_get is.ids.lmcs 0)) p.begun.header is.needed
-      (sym (others_with (set_of ph_kept.kept_ph_fields) ph.ph_lmcs_aps_id p.begun.header refl) ∙ ap (with_field ph.ph_lmcs_aps_id) is.header.says.fields.other_ones ∙ lmcs_stated p.begun.sps (ph_shape round is.ids))
+      (sym (others_with ph_kept.kept_ph_fields ph.ph_lmcs_aps_id p.begun.header refl) ∙ ap (with_field ph.ph_lmcs_aps_id) is.header.says.fields.other_ones ∙ lmcs_stated p.begun.sps (ph_shape round is.ids))
       (λ shape at.
       let from = mapped (lmcs_shape round) (slice_get is.ids.lmcs 0) shape at in
       let index = first_index is.ids.lmcs from.0 from.1 in
@@ -193,7 +192,7 @@ module _ (tells : SetsTellPartitions) (reads : ReadSlicesAreListable) (has_filte
   unfolding fresh
   header_scaling =
       scaling_named (is_set (number p.begun.sps sps_fields.sps_explicit_scaling_list_enabled_flag)) (slice_get is.ids.scaling 0) p.begun.header is.needed
-      (sym (others_with (set_of ph_kept.kept_ph_fields) ph.ph_scaling_list_aps_id p.begun.header refl) ∙ ap (with_field ph.ph_scaling_list_aps_id) is.header.says.fields.other_ones ∙ scaling_stated p.begun.sps (ph_shape round is.ids))
+      (sym (others_with ph_kept.kept_ph_fields ph.ph_scaling_list_aps_id p.begun.header refl) ∙ ap (with_field ph.ph_scaling_list_aps_id) is.header.says.fields.other_ones ∙ scaling_stated p.begun.sps (ph_shape round is.ids))
       (λ id at.
       let index = first_index is.ids.scaling id at in
       let low = slots_low scaling_slots (length (scaling_bodies round)) t (sent_before done p) (aps_of_body aps.SCALING (scaling_bodies round)) is.ids.scaling is.taken.of_scaling 0 index.1 in

@@ -3,7 +3,6 @@ use Rattle.std.proofs.Common.{◌≡◌, ℕ, ◌<◌, ◌==◌, Bool, false, no
 use Rattle.vx_bits.specs.declared.list.Item.{Item}
 use Rattle.vx_fields.specs.declared.ph.TheConstants as ph
 use Rattle.vx_fields.specs.declared.sps.TheConstants as sps_fields
-use Rattle.vx_table.specs.Depends.{set_of}
 use Rattle.vx_table.specs.Loaded.{number}
 use Rattle.vx_table.specs.Scope.{fresh, is_set, one_if}
 use Rattle.vx_table.proofs.With.{Passing, lacks, one_number, others_with, passing_append, passing_where, with_field}
@@ -65,7 +64,7 @@ module _ (reads : UnitIsRead) (has_id : UnitHasId) (round : List Parts) (ids : I
   id_is =
       let of = ph.ph_pic_parameter_set_id in
       let others : with_field of b.header ≡ with_field of (stated_ph_items b.sps (ph_shape round ids))
-      = sym (others_with (set_of kept_ph_fields) of b.header refl) ∙ ap (λ xs. with_field of xs) h.says.fields.other_ones in
+      = sym (others_with kept_ph_fields of b.header refl) ∙ ap (λ xs. with_field of xs) h.says.fields.other_ones in
       one_number of ids.pps b.header (omega arith) (omega (arith, small)) (others ∙ ap (λ xs. item of ids.pps ∷ xs) (maps_beside b.sps (ph_shape round ids)))
 
   is_header : IsHeader (structures b.sps) (in_force b.sps b.pps) (picture_header_of b)

@@ -9,7 +9,7 @@ use Rattle.vx_bits.specs.Fields.{first_value}
 use Rattle.vx_fields.specs.declared.alf.TheConstants as alf
 use Rattle.vx_fields.specs.declared.ph.TheConstants as ph
 use Rattle.vx_fields.specs.declared.sps.TheConstants as sps_fields
-use Rattle.vx_table.specs.Depends.{has, set_of}
+use Rattle.vx_table.specs.Depends.{has}
 use Rattle.vx_table.specs.Loaded.{number}
 use Rattle.vx_table.specs.Scope.{fresh, is_set, natural, one_if}
 use Rattle.vx_table.proofs.With.{first_with, lacks, others_with, passing_append, passing_where, with_field, with_first, with_second}
@@ -40,29 +40,29 @@ abbrev slots_by : ℕ → (ℕ → ℕ) → List Item → List Slot
 slots_by kind ids items = map (λ (x : Item). record { kind = kind; id = ids (natural x.value) }) items
 
 -- with other ids
-renamed_with : (of : ℕ) (ids : ℕ → ℕ) (items : List Item) → ((n : ℕ) → ids n < 8) → has (set_of set_ids) of ≡ true
+renamed_with : (of : ℕ) (ids : ℕ → ℕ) (items : List Item) → ((n : ℕ) → ids n < 8) → has set_ids of ≡ true
     → named aps.ALF of (with_ids ids items) ≡ slots_by aps.ALF ids (with_field of items)
 unfolding natural
 renamed_with of ids [] low is = refl
 renamed_with of ids (x ∷ items) low is = elim (cases_Bool (x.field == of)) [
   | inl on ↦
-      let known : has (set_of set_ids) x.field ≡ true = ap (has (set_of set_ids)) (eqb-true x.field of on) ∙ is in
+      let known : has set_ids x.field ≡ true = ap (has set_ids) (eqb-true x.field of on) ∙ is in
       let small = low (natural x.value) in
       let same : min (ids (natural x.value)) 4294967295 ≡ ids (natural x.value) = omega (arith, small) in
       rw (known, on) (ap (λ n. record { kind = aps.ALF; id = n } ∷ named aps.ALF of (with_ids ids items)) same ∙ ap (λ ss. record { kind = aps.ALF; id = ids (natural x.value) } ∷ ss) (renamed_with of ids items low is))
-  | inr off ↦ elim (cases_Bool (has (set_of set_ids) x.field)) [
+  | inr off ↦ elim (cases_Bool (has set_ids x.field)) [
     | inl known ↦ rw (known, off) (renamed_with of ids items low is)
     | inr other ↦ rw (other, off) (renamed_with of ids items low is)
   ]
 ]
 
 -- a filter has a header's items of its fields
-filter_with : (of : ℕ) (items : List Item) → has (set_of alf.ALL) of ≡ true → with_field of (filter_of items) ≡ with_field of items
+filter_with : (of : ℕ) (items : List Item) → has alf.ALL of ≡ true → with_field of (filter_of items) ≡ with_field of items
 filter_with of [] is = refl
 filter_with of (x ∷ items) is = elim (cases_Bool (x.field == of)) [
-  | inl on ↦ let shown : has (set_of alf.ALL) x.field ≡ true = ap (has (set_of alf.ALL)) (eqb-true x.field of on)
+  | inl on ↦ let shown : has alf.ALL x.field ≡ true = ap (has alf.ALL) (eqb-true x.field of on)
       ∙ is in rw (shown, on) (ap (λ xs. x ∷ xs) (filter_with of items is))
-  | inr off ↦ elim (cases_Bool (has (set_of alf.ALL) x.field)) [
+  | inr off ↦ elim (cases_Bool (has alf.ALL x.field)) [
     | inl shown ↦ rw (shown, off) (filter_with of items is)
     | inr hidden ↦ rw (hidden, off) (filter_with of items is)
   ]
@@ -185,7 +185,7 @@ module _ (q : Parts) (items : List Item) (there : AreThere q.bodies (named_filte
   there_cr = there_back q.bodies cb cr (there_back q.bodies chroma (cb ++ cr) (there_back q.bodies luma (chroma ++ (cb ++ cr)) there))
 
   -- with other ids there are as many items
-  as_many : (of : ℕ) → has (set_of set_ids) of ≡ true → has (set_of alf.ALL) of ≡ true
+  as_many : (of : ℕ) → has set_ids of ≡ true → has alf.ALL of ≡ true
       → length (with_field of (with_ids ids (filter_of items))) ≤ 1 → length (with_field of items) ≤ 1
   as_many of known shown few =
       let slots : length (named aps.ALF of (with_ids ids (filter_of items))) ≡ length (with_field of (filter_of items)) = ap (λ ss. length ss) (renamed_with of ids (filter_of items) low known) ∙ length-map (with_field of (filter_of items)) (λ (x : Item). record { kind = aps.ALF; id = ids (natural x.value) }) in
@@ -194,7 +194,7 @@ module _ (q : Parts) (items : List Item) (there : AreThere q.bodies (named_filte
       omega (arith, slots, all, shown_, few)
 
   -- the slots of a field
-  field_named : (of : ℕ) (bodies : List (List ℕ)) → has (set_of set_ids) of ≡ true → has (set_of alf.ALL) of ≡ true
+  field_named : (of : ℕ) (bodies : List (List ℕ)) → has set_ids of ≡ true → has alf.ALL of ≡ true
       → ((body : List ℕ) → HasBody bodies body → HasBody (bodies_in (alf_of q items)) body)
       → AllByRecursion (HasItsBody q bodies) (with_field of items) → HaveNamed needed (named aps.ALF of (with_ids ids (filter_of items)))
   field_named of bodies known shown inside all =
@@ -305,7 +305,7 @@ same_slots of items others same = ap (slots_by aps.ALF (λ n. n)) same
 
 -- a written header names the sets of its filter, where there is one
 same_filters : (items others : List Item)
-    → ((of : ℕ) → is_apart of ≡ false → has (set_of kept_fields) of ≡ false → with_field of items ≡ with_field of others)
+    → ((of : ℕ) → is_apart of ≡ false → has kept_fields of ≡ false → with_field of items ≡ with_field of others)
     → named_filters items ≡ named_filters others
 unfolding fresh
 same_filters items others same =
@@ -320,4 +320,4 @@ pub filter_written : (n : SliceNumbers) (shape : ShShape) (source written : List
     → named_filters written ≡ named_filters (where_so (is_set (number n.sps.now sps_fields.sps_alf_enabled_flag)) shape.filter.now)
 filter_written n shape source written re =
     same_filters written (where_so (is_set (number n.sps.now sps_fields.sps_alf_enabled_flag)) shape.filter.now)
-    (λ of aside outside. sym (others_with (set_of kept_fields) of written outside) ∙ ap (with_field of) re.others ∙ filter_stated of n shape aside)
+    (λ of aside outside. sym (others_with kept_fields of written outside) ∙ ap (with_field of) re.others ∙ filter_stated of n shape aside)

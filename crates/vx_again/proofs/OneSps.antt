@@ -6,7 +6,6 @@ use Rattle.vx_bits.specs.declared.list.Item.{Item}
 use Rattle.vx_fields.specs.declared.dpb.TheConstants as dpb
 use Rattle.vx_fields.specs.declared.ptl.TheConstants.{general_level_idc}
 use Rattle.vx_fields.specs.declared.sps.TheConstants as sps_fields
-use Rattle.vx_table.specs.Depends.{set_of}
 use Rattle.vx_table.specs.Loaded.{number}
 use Rattle.vx_table.specs.Shown.{shown_items}
 use Rattle.vx_table.proofs.Rewriting.{rewritten_one}
@@ -118,4 +117,4 @@ one_sps corners level es qs s t is one two =
     let source : List Item = (picture_at qs 0).sps in
     let shape : SpsShape = frame_sps_shape corners qs level in
     let moved : IsReshapedSps source shape s = subst (λ x. IsReshapedSps x shape s) (first_same es qs is) (subst (λ x. IsReshapedSps (picture_at es 0).sps x s) (shape_same corners level es qs is) one) in
-    rewritten_one sps_form (set_of taken_sps_fields) (shown_items (set_of taken_sps_fields) source) (stated_sps_items source shape) s t moved two
+    rewritten_one sps_form taken_sps_fields (shown_items taken_sps_fields source) (stated_sps_items source shape) s t moved two

@@ -8,7 +8,6 @@ use Rattle.std.proofs.lemmas.List.Concat.{flat_map-append}
 use Rattle.std.proofs.lemmas.List.FromFn.{length-range_with_len}
 use Rattle.std.proofs.lemmas.List.Sums.{sum_by-cons}
 use Rattle.vx_fields.specs.declared.sh.TheConstants.{sh_slice_address}
-use Rattle.vx_table.specs.Depends.{set_of}
 use Rattle.vx_table.specs.Loaded.{number}
 use Rattle.vx_table.specs.Scope.{fresh}
 use Rattle.vx_table.proofs.Loading.{number_of_shown}
@@ -187,9 +186,9 @@ module _ (tells : SetsTellPartitions) (reads : ReadSlicesAreListable) (corners :
   unfolding address_of fresh
   address_is q k s w source own =
       ap (λ h. number h.fields sh_slice_address) own.read
-      ∙ number_of_shown (set_of kept_fields) sh_slice_address own.is.header.fields refl
+      ∙ number_of_shown kept_fields sh_slice_address own.is.header.fields refl
       ∙ ap (λ xs. number xs sh_slice_address) own.is.reshaped.fields.kept
-      ∙ sym (number_of_shown (set_of kept_fields) sh_slice_address s.header.fields refl) ∙ sym source.address
+      ∙ sym (number_of_shown kept_fields sh_slice_address s.header.fields refl) ∙ sym source.address
 
   place_is : (k : ℕ) → k < length round → (s : SlicePart) (w : Slice) → IsSourceSlice (picture_at round k) s
       → IsMergedSlice round is.ids p.kind.nal_type p.begun k s w → slices_before frame w.header ≡ before_in frame k + s.header.address

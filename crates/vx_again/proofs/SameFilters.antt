@@ -7,7 +7,7 @@ use Rattle.std.proofs.lemmas.Option.{none-some, same_Some}
 use Rattle.vx_bits.specs.declared.list.Item.{Item}
 use Rattle.vx_bits.specs.Fields.{first_value}
 use Rattle.vx_fields.specs.declared.alf.TheConstants as alf
-use Rattle.vx_table.specs.Depends.{has, set_of}
+use Rattle.vx_table.specs.Depends.{has}
 use Rattle.vx_table.specs.Loaded.{number}
 use Rattle.vx_table.specs.Scope.{fresh, is_set, natural}
 use Rattle.vx_table.proofs.With.{first_with, same_number, with_field}
@@ -28,17 +28,17 @@ abbrev renamed : (ℕ → ℕ) → Item → Item
 renamed ids x = record { field = x.field; value = pos (ids (natural x.value)) }
 
 -- those that name sets are renamed,
-with_renamed : (of : ℕ) (ids : ℕ → ℕ) (items : List Item) → has (set_of set_ids) of ≡ true → has (set_of alf.ALL) of ≡ true
+with_renamed : (of : ℕ) (ids : ℕ → ℕ) (items : List Item) → has set_ids of ≡ true → has alf.ALL of ≡ true
     → with_field of (with_ids ids (filter_of items)) ≡ map (renamed ids) (with_field of items)
 with_renamed of ids [] named_ shown = refl
 with_renamed of ids (x ∷ items) named_ shown = elim (cases_Bool (x.field == of)) [
   | inl on ↦
-      let all : has (set_of alf.ALL) x.field ≡ true = ap (has (set_of alf.ALL)) (eqb-true x.field of on) ∙ shown in
-      let known : has (set_of set_ids) x.field ≡ true = ap (has (set_of set_ids)) (eqb-true x.field of on) ∙ named_ in
+      let all : has alf.ALL x.field ≡ true = ap (has alf.ALL) (eqb-true x.field of on) ∙ shown in
+      let known : has set_ids x.field ≡ true = ap (has set_ids) (eqb-true x.field of on) ∙ named_ in
       rw (all, known, on) (ap (λ xs. renamed ids x ∷ xs) (with_renamed of ids items named_ shown))
-  | inr off ↦ elim (cases_Bool (has (set_of alf.ALL) x.field)) [
+  | inr off ↦ elim (cases_Bool (has alf.ALL x.field)) [
     | inr hidden ↦ rw (hidden, off) (with_renamed of ids items named_ shown)
-    | inl all ↦ elim (cases_Bool (has (set_of set_ids) x.field)) [
+    | inl all ↦ elim (cases_Bool (has set_ids x.field)) [
       | inl known ↦ rw (all, known, off) (with_renamed of ids items named_ shown)
       | inr other ↦ rw (all, other, off) (with_renamed of ids items named_ shown)
     ]
@@ -46,17 +46,17 @@ with_renamed of ids (x ∷ items) named_ shown = elim (cases_Bool (x.field == of
 ]
 
 -- and all others stay
-with_others : (of : ℕ) (ids : ℕ → ℕ) (items : List Item) → has (set_of set_ids) of ≡ false → has (set_of alf.ALL) of ≡ true
+with_others : (of : ℕ) (ids : ℕ → ℕ) (items : List Item) → has set_ids of ≡ false → has alf.ALL of ≡ true
     → with_field of (with_ids ids (filter_of items)) ≡ with_field of items
 with_others of ids [] other shown = refl
 with_others of ids (x ∷ items) other shown = elim (cases_Bool (x.field == of)) [
   | inl on ↦
-      let all : has (set_of alf.ALL) x.field ≡ true = ap (has (set_of alf.ALL)) (eqb-true x.field of on) ∙ shown in
-      let plain : has (set_of set_ids) x.field ≡ false = ap (has (set_of set_ids)) (eqb-true x.field of on) ∙ other in
+      let all : has alf.ALL x.field ≡ true = ap (has alf.ALL) (eqb-true x.field of on) ∙ shown in
+      let plain : has set_ids x.field ≡ false = ap (has set_ids) (eqb-true x.field of on) ∙ other in
       rw (all, plain, on) (ap (λ xs. x ∷ xs) (with_others of ids items other shown))
-  | inr off ↦ elim (cases_Bool (has (set_of alf.ALL) x.field)) [
+  | inr off ↦ elim (cases_Bool (has alf.ALL x.field)) [
     | inr hidden ↦ rw (hidden, off) (with_others of ids items other shown)
-    | inl all ↦ elim (cases_Bool (has (set_of set_ids) x.field)) [
+    | inl all ↦ elim (cases_Bool (has set_ids x.field)) [
       | inl known ↦ rw (all, known, off) (with_others of ids items other shown)
       | inr plain ↦ rw (all, plain, off) (with_others of ids items other shown)
     ]
@@ -64,15 +64,15 @@ with_others of ids (x ∷ items) other shown = elim (cases_Bool (x.field == of))
 ]
 
 -- there are none of other fields
-pub with_none : (of : ℕ) (ids : ℕ → ℕ) (items : List Item) → has (set_of alf.ALL) of ≡ false
+pub with_none : (of : ℕ) (ids : ℕ → ℕ) (items : List Item) → has alf.ALL of ≡ false
     → with_field of (with_ids ids (filter_of items)) ≡ []
 with_none of ids [] hidden = refl
-with_none of ids (x ∷ items) hidden = elim (cases_Bool (has (set_of alf.ALL) x.field)) [
+with_none of ids (x ∷ items) hidden = elim (cases_Bool (has alf.ALL x.field)) [
   | inr out ↦ rw out (with_none of ids items hidden)
   | inl all ↦
       let off : (x.field == of) ≡ false
-      = false_from_ne_true (x.field == of) (λ on. true≢false (sym all ∙ ap (has (set_of alf.ALL)) (eqb-true x.field of on) ∙ hidden)) in
-      elim (cases_Bool (has (set_of set_ids) x.field)) [
+      = false_from_ne_true (x.field == of) (λ on. true≢false (sym all ∙ ap (has alf.ALL) (eqb-true x.field of on) ∙ hidden)) in
+      elim (cases_Bool (has set_ids x.field)) [
         | inl known ↦ rw (all, known, off) (with_none of ids items hidden)
         | inr other ↦ rw (all, other, off) (with_none of ids items hidden)
       ]
@@ -155,7 +155,7 @@ module _ (q r : Parts) (ids : ℕ → ℕ) (own : List ℕ → ℕ) (low : (n : 
 
   module _ (items written : List Item) (there : AreThere q.bodies (named_filters items))
       (has_ : (b : List ℕ) → HasBody (bodies_in (alf_of q items)) b → body_of r aps.ALF (own b) ≡ Some b)
-      (same : (of : ℕ) → has (set_of alf.ALL) of ≡ true → has (set_of kept_fields) of ≡ false
+      (same : (of : ℕ) → has alf.ALL of ≡ true → has kept_fields of ≡ false
       → with_field of written ≡ with_field of (with_ids ids (filter_of items))) where
     abbrev luma : List Slot
     luma = named aps.ALF alf.alf_aps_id_luma items
@@ -187,7 +187,7 @@ module _ (q r : Parts) (ids : ℕ → ℕ) (own : List ℕ → ℕ) (low : (n : 
     behind_chroma : AreThere q.bodies (cb ++ cr)
     behind_chroma = there_rest q.bodies chroma (cb ++ cr) behind_luma
 
-    flag_is : (of : ℕ) → has (set_of set_ids) of ≡ false → has (set_of alf.ALL) of ≡ true → has (set_of kept_fields) of ≡ false
+    flag_is : (of : ℕ) → has set_ids of ≡ false → has alf.ALL of ≡ true → has kept_fields of ≡ false
         → is_set (number written of) ≡ is_set (number items of)
     flag_is of other shown starred = ap is_set (same_number of written items (same of shown starred ∙ with_others of ids items other shown))
 
@@ -198,7 +198,7 @@ module _ (q r : Parts) (ids : ℕ → ℕ) (own : List ℕ → ℕ) (low : (n : 
         ∙ all_bodies (with_field alf.alf_aps_id_luma items) (there_front q.bodies luma (chroma ++ (cb ++ cr)) there)
         (λ b among. has_ b (body_first of_luma (of_chroma ++ (of_cb ++ of_cr)) b among))
 
-    first_is : (of : ℕ) → has (set_of set_ids) of ≡ true → has (set_of alf.ALL) of ≡ true → has (set_of kept_fields) of ≡ false
+    first_is : (of : ℕ) → has set_ids of ≡ true → has alf.ALL of ≡ true → has kept_fields of ≡ false
         → AreThere q.bodies (named aps.ALF of items)
         → ((b : List ℕ) → HasBody (option_to_list (named_body q aps.ALF of items)) b → HasBody (bodies_in (alf_of q items)) b)
         → named_body r aps.ALF of written ≡ named_body q aps.ALF of items

@@ -11,7 +11,7 @@ use Rattle.vx_fields.specs.declared.ph.TheConstants as ph
 use Rattle.vx_fields.specs.declared.pps.TheConstants as pps
 use Rattle.vx_fields.specs.declared.sh.TheConstants as sh
 use Rattle.vx_fields.specs.declared.sps.TheConstants as sps
-use Rattle.vx_table.specs.Depends.{has, set_of}
+use Rattle.vx_table.specs.Depends.{has}
 use Rattle.vx_table.specs.Loaded.{number}
 use Rattle.vx_table.specs.Scope.{fresh, is_set, natural}
 use Rattle.vx_table.proofs.Loading.{number_of_shown}
@@ -180,10 +180,10 @@ module _ (tells : SetsTellPartitions) (reads : ReadSlicesAreListable) (laws : Sl
     agree : AgreeOnKept q.sps q.pps p.begun.sps p.begun.pps
     agree = laws.agree q.sps q.pps p.begun.sps p.begun.pps kept
 
-    sps_same : (of : ℕ) → IsTrue (has (set_of sps_set.kept_sps_fields) of) → number p.begun.sps of ≡ number q.sps of
+    sps_same : (of : ℕ) → IsTrue (has sps_set.kept_sps_fields of) → number p.begun.sps of ≡ number q.sps of
     sps_same of there =
-        number_of_shown (set_of sps_set.kept_sps_fields) of p.begun.sps there ∙ ap (λ xs. number xs of) kept.of_sps
-        ∙ sym (number_of_shown (set_of sps_set.kept_sps_fields) of q.sps there)
+        number_of_shown sps_set.kept_sps_fields of p.begun.sps there ∙ ap (λ xs. number xs of) kept.of_sps
+        ∙ sym (number_of_shown sps_set.kept_sps_fields of q.sps there)
 
     -- ---- kept fields
 
@@ -234,7 +234,7 @@ module _ (tells : SetsTellPartitions) (reads : ReadSlicesAreListable) (laws : Sl
         (λ of shown starred. filter_with m.is.numbers m.is.shape m.is.header.fields m.is.reshaped.fields.others of shown starred
         ∙ ap (with_field of) filter_there)
 
-    no_field : (of : ℕ) → has (set_of alf.ALL) of ≡ false → with_field of m.is.shape.filter.now ≡ []
+    no_field : (of : ℕ) → has alf.ALL of ≡ false → with_field of m.is.shape.filter.now ≡ []
     no_field of hidden = ap (with_field of) m.is.says.filter ∙ with_none of ids items hidden
 
     -- ---- LMCS
@@ -383,11 +383,11 @@ module _ (tells : SetsTellPartitions) (reads : ReadSlicesAreListable) (laws : Sl
 
     header_lists : r.header.lists ≡ q.header.lists
     unfolding fresh
-    header_lists = sym (agree.lists (set_of ph_set.kept_ph_fields) q.header.fields p.begun.header refl (sym header_kept)) ∙ sym picture.lists
+    header_lists = sym (agree.lists ph_set.kept_ph_fields q.header.fields p.begun.header refl (sym header_kept)) ∙ sym picture.lists
 
     slice_lists : new.lists ≡ s.header.lists
     unfolding fresh
-    slice_lists = sym (agree.lists (set_of kept_fields) s.header.fields w.header.fields refl (sym slice_kept)) ∙ sym source.lists
+    slice_lists = sym (agree.lists kept_fields s.header.fields w.header.fields refl (sym slice_kept)) ∙ sym source.lists
 
     lists_same : lists_in_force r new ≡ lists_in_force q s.header
     lists_same =

@@ -11,7 +11,7 @@ use Rattle.vx_fields.specs.declared.pps.TheConstants as pps_fields
 use Rattle.vx_fields.specs.declared.ph.TheConstants.{ph_explicit_scaling_list_enabled_flag, ph_lmcs_enabled_flag}
 use Rattle.vx_fields.specs.declared.sh.TheConstants.{sh_explicit_scaling_list_used_flag, sh_lmcs_used_flag, sh_qp_delta, sh_slice_address, sh_subpic_id}
 use Rattle.vx_fields.specs.declared.sps.TheConstants as sps_fields
-use Rattle.vx_table.specs.Depends.{has, set_of}
+use Rattle.vx_table.specs.Depends.{has}
 use Rattle.vx_table.specs.Loaded.{number}
 use Rattle.vx_table.specs.Scope.{fresh, is_set, one_if}
 use Rattle.vx_table.proofs.Loading.{number_of_shown}
@@ -50,11 +50,11 @@ use Rattle.vx_again.proofs.Units.{IsSliceUnit, slice_unit_is}
 -- ---- what is stated of a slice
 
 -- fields of a filter stay so with other ids
-filter_passes : (ids : ℕ → ℕ) (items : List Item) → Passing (λ n. has (set_of alf.ALL) n) (with_ids ids (filter_of items))
+filter_passes : (ids : ℕ → ℕ) (items : List Item) → Passing (λ n. has alf.ALL n) (with_ids ids (filter_of items))
 filter_passes ids [] = tt
-filter_passes ids (x ∷ items) = elim (cases_Bool (has (set_of alf.ALL) x.field)) [
+filter_passes ids (x ∷ items) = elim (cases_Bool (has alf.ALL x.field)) [
   | inr off ↦ rw off (filter_passes ids items)
-  | inl on ↦ rw on (elim (cases_Bool (has (set_of set_ids) x.field)) [
+  | inl on ↦ rw on (elim (cases_Bool (has set_ids x.field)) [
     | inl named ↦ rw named (on, filter_passes ids items)
     | inr plain ↦ rw plain (on, filter_passes ids items)
   ])
@@ -74,7 +74,7 @@ stated_delta n shape ids items is =
     let none_first : with_field sh_qp_delta first ≡ [] = lacks beside_qp sh_qp_delta first refl
     (refl, passing_where beside_qp (is_set (number n.sps.now sps_fields.sps_subpic_info_present_flag)) (item sh_subpic_id shape.subpic_id ∷ []) (refl, tt)) in
     let none_filter : with_field sh_qp_delta filter_ ≡ [] =
-    lacks (λ m. has (set_of alf.ALL) m) sh_qp_delta filter_ refl (passing_where (λ m. has (set_of alf.ALL) m) has_filter shape.filter.now (subst (Passing (λ m. has (set_of alf.ALL) m)) (sym is) (filter_passes ids items))) in
+    lacks (λ m. has alf.ALL m) sh_qp_delta filter_ refl (passing_where (λ m. has alf.ALL m) has_filter shape.filter.now (subst (Passing (λ m. has alf.ALL m)) (sym is) (filter_passes ids items))) in
     let none_uses : with_field sh_qp_delta uses ≡ [] = lacks beside_qp sh_qp_delta uses refl
     (passing_append beside_qp _ _
     (passing_where beside_qp (is_set (number n.header.now.fields ph_lmcs_enabled_flag)) (item sh_lmcs_used_flag (one_if shape.uses_lmcs) ∷ []) (refl, tt))
@@ -114,16 +114,16 @@ module _ (laws : SliceLaws) (round : List Parts) (ids : Ids) (nal_type : ℕ) (b
     (known : IsKnownSlice round nal_type b k s) (m : IsMergedSlice round ids nal_type b k s w) where
   -- ---- its header tells the numbers beside the items
 
-  same_number : (of : ℕ) → IsTrue (has (set_of kept_fields) of) → number s.header.fields of ≡ number m.is.header.fields of
+  same_number : (of : ℕ) → IsTrue (has kept_fields of) → number s.header.fields of ≡ number m.is.header.fields of
   same_number of there =
-      number_of_shown (set_of kept_fields) of s.header.fields there ∙ ap (λ xs. number xs of) (sym m.is.reshaped.fields.kept)
-      ∙ sym (number_of_shown (set_of kept_fields) of m.is.header.fields there)
+      number_of_shown kept_fields of s.header.fields there ∙ ap (λ xs. number xs of) (sym m.is.reshaped.fields.kept)
+      ∙ sym (number_of_shown kept_fields of m.is.header.fields there)
 
   lists_told : m.is.header.lists ≡ lists_of (in_force_at m.is.numbers).table (in_force_at m.is.numbers).sets m.is.header.fields
   unfolding fresh
   lists_told =
       let q = picture_at round k in
-      let same = (laws.agree q.sps q.pps b.sps b.pps known.kept).lists (set_of kept_fields) s.header.fields m.is.header.fields refl (sym m.is.reshaped.fields.kept) in
+      let same = (laws.agree q.sps q.pps b.sps b.pps known.kept).lists kept_fields s.header.fields m.is.header.fields refl (sym m.is.reshaped.fields.kept) in
       let sps = m.is.at.sps in
       let pps = m.is.at.pps in
       m.is.reshaped.lists ∙ known.source.lists ∙ same
@@ -179,7 +179,7 @@ module _ (laws : SliceLaws) (round : List Parts) (ids : Ids) (nal_type : ℕ) (b
       let stated_one = stated_delta m.is.numbers m.is.shape (id_for round ids q) (sets.filter_items q.pps q.header.fields (read_of s.header)) m.is.says.filter in
       let one : List Item = record { field = sh_qp_delta; value = m.is.shape.qp_delta } ∷ [] in
       let same : with_field sh_qp_delta m.is.header.fields ≡ with_field sh_qp_delta one
-      = sym (others_with (set_of kept_fields) sh_qp_delta m.is.header.fields refl)
+      = sym (others_with kept_fields sh_qp_delta m.is.header.fields refl)
       ∙ ap (λ xs. with_field sh_qp_delta xs) m.is.reshaped.fields.others ∙ stated_one in
       same_signed sh_qp_delta m.is.header.fields one same
 
@@ -197,8 +197,8 @@ module _ (laws : SliceLaws) (round : List Parts) (ids : Ids) (nal_type : ℕ) (b
       let depth = sps_fields.sps_bitdepth_minus8 in
       let q = picture_at round k in
       let bits : number b.sps depth ≡ number q.sps depth
-      = number_of_shown (set_of sps_set.kept_sps_fields) depth b.sps refl ∙ ap (λ xs. number xs depth) known.kept.of_sps
-      ∙ sym (number_of_shown (set_of sps_set.kept_sps_fields) depth q.sps refl) in
+      = number_of_shown sps_set.kept_sps_fields depth b.sps refl ∙ ap (λ xs. number xs depth) known.kept.of_sps
+      ∙ sym (number_of_shown sps_set.kept_sps_fields depth q.sps refl) in
       let fits = known.source.qp in
       rw (bits, qp_is) fits
 

@@ -7,7 +7,7 @@ use Rattle.vx_fields.specs.declared.alf.TheConstants as alf
 use Rattle.vx_fields.specs.declared.ph.TheConstants as ph
 use Rattle.vx_fields.specs.declared.sh.TheConstants as sh
 use Rattle.vx_fields.specs.declared.sps.TheConstants as sps
-use Rattle.vx_table.specs.Depends.{has, set_of}
+use Rattle.vx_table.specs.Depends.{has}
 use Rattle.vx_table.specs.Loaded.{number}
 use Rattle.vx_table.specs.Rewritten.{other_items}
 use Rattle.vx_table.specs.Scope.{fresh, is_set, one_if}
@@ -57,9 +57,9 @@ module _ (n : SliceNumbers) (shape : ShShape) where
 
   -- a field of a filter
   abbrev beside : ℕ → Bool
-  beside f = not (has (set_of alf.ALL) f)
+  beside f = not (has alf.ALL f)
 
-  pub filter_stated : (of : ℕ) → has (set_of alf.ALL) of ≡ true → with_field of (slice.stated_sh_items n shape) ≡ with_field of filters
+  pub filter_stated : (of : ℕ) → has alf.ALL of ≡ true → with_field of (slice.stated_sh_items n shape) ≡ with_field of filters
   unfolding fresh
   filter_stated of is =
       let out : beside of ≡ false = ap not is in
@@ -110,11 +110,11 @@ flag_where : (of : ℕ) (fields : List Item) (on b : Bool) → of < 1024 → wit
 flag_where of fields false b low same = refl
 flag_where of fields true b low same = ap is_set (one_number of (one_if b) fields low (small_flag b) same) ∙ flag_of b
 
-module _ (n : SliceNumbers) (shape : ShShape) (fields : List Item) (others : other_items (set_of kept_fields) fields ≡ slice.stated_sh_items n shape) where
-  pub filter_with : (of : ℕ) → has (set_of alf.ALL) of ≡ true → has (set_of kept_fields) of ≡ false
+module _ (n : SliceNumbers) (shape : ShShape) (fields : List Item) (others : other_items kept_fields fields ≡ slice.stated_sh_items n shape) where
+  pub filter_with : (of : ℕ) → has alf.ALL of ≡ true → has kept_fields of ≡ false
       → with_field of fields ≡ with_field of (stated_filter_items n.sps.now shape.filter.now)
   filter_with of is starred =
-      sym (others_with (set_of kept_fields) of fields starred) ∙ ap (with_field of) others ∙ filter_stated n shape of is
+      sym (others_with kept_fields of fields starred) ∙ ap (with_field of) others ∙ filter_stated n shape of is
 
   pub lmcs_used : with_field sh.sh_lmcs_used_flag shape.filter.now ≡ []
       → (is_set (number n.header.now.fields ph.ph_lmcs_enabled_flag) && is_set (number fields sh.sh_lmcs_used_flag))
@@ -125,7 +125,7 @@ module _ (n : SliceNumbers) (shape : ShShape) (fields : List Item) (others : oth
       let on = is_set (number n.header.now.fields ph.ph_lmcs_enabled_flag) in
       let on_lists = is_set (number n.header.now.fields ph.ph_explicit_scaling_list_enabled_flag) in
       flag_where of fields on shape.uses_lmcs (omega arith)
-      (sym (others_with (set_of kept_fields) of fields refl) ∙ ap (with_field of) others ∙ uses_stated n shape of refl refl refl none
+      (sym (others_with kept_fields of fields refl) ∙ ap (with_field of) others ∙ uses_stated n shape of refl refl refl none
       ∙ used_lmcs on on_lists shape.uses_lmcs shape.uses_scaling)
 
   pub scaling_used : with_field sh.sh_explicit_scaling_list_used_flag shape.filter.now ≡ []
@@ -138,7 +138,7 @@ module _ (n : SliceNumbers) (shape : ShShape) (fields : List Item) (others : oth
       let on = is_set (number n.header.now.fields ph.ph_lmcs_enabled_flag) in
       let on_lists = is_set (number n.header.now.fields ph.ph_explicit_scaling_list_enabled_flag) in
       flag_where of fields on_lists shape.uses_scaling (omega arith)
-      (sym (others_with (set_of kept_fields) of fields refl) ∙ ap (with_field of) others ∙ uses_stated n shape of refl refl refl none
+      (sym (others_with kept_fields of fields refl) ∙ ap (with_field of) others ∙ uses_stated n shape of refl refl refl none
       ∙ used_scaling on on_lists shape.uses_lmcs shape.uses_scaling)
 
 -- ---- the picture header
@@ -156,7 +156,7 @@ aside_lmcs of chroma None one two three = rw one refl
 aside_lmcs of chroma (Some lmcs) one two three =
     rw (one, two) (none_where of (is_set chroma) (item ph.ph_chroma_residual_scale_flag (one_if lmcs.scales_chroma) ∷ []) (rw three refl))
 
-module _ (s fields : List Item) (shape : PhShape) (others : other_items (set_of kept_ph_fields) fields ≡ header.stated_ph_items s shape) where
+module _ (s fields : List Item) (shape : PhShape) (others : other_items kept_ph_fields fields ≡ header.stated_ph_items s shape) where
   abbrev chroma : ℕ
   chroma = number s sps.sps_chroma_format_idc
 
@@ -166,14 +166,14 @@ module _ (s fields : List Item) (shape : PhShape) (others : other_items (set_of 
   abbrev lists : List Item
   lists = where_so (is_set (number s sps.sps_explicit_scaling_list_enabled_flag)) (scaling_said shape.scaling)
 
-  with_maps : (of : ℕ) → has (set_of kept_ph_fields) of ≡ false → (ph.ph_pic_parameter_set_id == of) ≡ false
+  with_maps : (of : ℕ) → has kept_ph_fields of ≡ false → (ph.ph_pic_parameter_set_id == of) ≡ false
       → with_field of fields ≡ with_field of (maps ++ lists)
   with_maps of starred beside =
-      sym (others_with (set_of kept_ph_fields) of fields starred) ∙ ap (with_field of) others
+      sym (others_with kept_ph_fields of fields starred) ∙ ap (with_field of) others
       ∙ ap (λ b. cond b (item ph.ph_pic_parameter_set_id shape.pps_id ∷ with_field of (maps ++ lists)) (with_field of (maps ++ lists))) beside
 
   -- a field of LMCS, and one of scaling lists
-  in_maps : (of : ℕ) → has (set_of kept_ph_fields) of ≡ false → (ph.ph_pic_parameter_set_id == of) ≡ false
+  in_maps : (of : ℕ) → has kept_ph_fields of ≡ false → (ph.ph_pic_parameter_set_id == of) ≡ false
       → (ph.ph_explicit_scaling_list_enabled_flag == of) ≡ false
       → (ph.ph_scaling_list_aps_id == of) ≡ false → with_field of fields ≡ with_field of maps
   in_maps of starred beside one two =
@@ -181,7 +181,7 @@ module _ (s fields : List Item) (shape : PhShape) (others : other_items (set_of 
       (none_where of (is_set (number s sps.sps_explicit_scaling_list_enabled_flag)) (scaling_said shape.scaling)
       (aside_scaling of shape.scaling one two))
 
-  in_lists : (of : ℕ) → has (set_of kept_ph_fields) of ≡ false → (ph.ph_pic_parameter_set_id == of) ≡ false → (ph.ph_lmcs_enabled_flag == of) ≡ false
+  in_lists : (of : ℕ) → has kept_ph_fields of ≡ false → (ph.ph_pic_parameter_set_id == of) ≡ false → (ph.ph_lmcs_enabled_flag == of) ≡ false
       → (ph.ph_lmcs_aps_id == of) ≡ false → (ph.ph_chroma_residual_scale_flag == of) ≡ false → with_field of fields ≡ with_field of lists
   in_lists of starred beside one two three =
       with_maps of starred beside ∙ with_second of maps lists
@@ -204,7 +204,7 @@ module _ (s fields : List Item) (shape : PhShape) (others : other_items (set_of 
       off false same = ap is_set (no_number ph.ph_lmcs_enabled_flag fields same)
 
   module _ (enabled : is_set (number s sps.sps_lmcs_enabled_flag) ≡ true) (lmcs : LmcsShape) (is : shape.lmcs ≡ Some lmcs) where
-    said : (of : ℕ) → has (set_of kept_ph_fields) of ≡ false → (ph.ph_pic_parameter_set_id == of) ≡ false
+    said : (of : ℕ) → has kept_ph_fields of ≡ false → (ph.ph_pic_parameter_set_id == of) ≡ false
         → (ph.ph_explicit_scaling_list_enabled_flag == of) ≡ false
         → (ph.ph_scaling_list_aps_id == of) ≡ false → with_field of fields ≡ with_field of (lmcs_said chroma (Some lmcs))
     said of starred beside one two =
@@ -261,7 +261,7 @@ module _ (s fields : List Item) (shape : PhShape) (others : other_items (set_of 
       off false same = ap is_set (no_number ph.ph_explicit_scaling_list_enabled_flag fields same)
 
   module _ (enabled : is_set (number s sps.sps_explicit_scaling_list_enabled_flag) ≡ true) (id : ℕ) (is : shape.scaling ≡ Some id) where
-    lists_said : (of : ℕ) → has (set_of kept_ph_fields) of ≡ false → (ph.ph_pic_parameter_set_id == of) ≡ false
+    lists_said : (of : ℕ) → has kept_ph_fields of ≡ false → (ph.ph_pic_parameter_set_id == of) ≡ false
         → (ph.ph_lmcs_enabled_flag == of) ≡ false
         → (ph.ph_lmcs_aps_id == of) ≡ false → (ph.ph_chroma_residual_scale_flag == of) ≡ false
         → with_field of fields ≡ with_field of (scaling_said (Some id))

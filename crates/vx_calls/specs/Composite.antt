@@ -10,7 +10,7 @@ use Rattle.vx_table.specs.Scope.{fresh, natural}
 use Rattle.vx_table.specs.Forms.{Form, done, field, ◌>>=◌, form_of}
 use Rattle.vx_table.specs.Spelling.{items_along}
 use Rattle.vx_table.specs.Values.{Follows}
-use Rattle.vx_table.specs.Depends.{set_of, with_all, DependsOnlyOn}
+use Rattle.vx_table.specs.Depends.{DependsOnlyOn}
 use Rattle.vx_table.specs.Claims.{table_depends, behind_table}
 use Rattle.vx_table.specs.Shown.{shown_items}
 use Rattle.vx_table.specs.Rewritten.{IsRewritten}
@@ -40,9 +40,7 @@ CompositeDepends front behind = DependsOnlyOn [] (30 ∷ 31 ∷ 32 ∷ 33 ∷ 34
 
 -- wrong claims: the table behind reads 32, and 30, which aren't known where they aren't shown
 abbrev pub is_claimed : List ℕ → List Row → List Row → Bool
-is_claimed shown front behind =
-    let all = with_all (set_of []) shown in
-    table_depends all (behind_table all (set_of []) front) behind
+is_claimed shown front behind = table_depends shown (behind_table shown [] front) behind
 
 abbrev pub WrongClaimsFail : List Row → List Row → Type 0
 WrongClaimsFail front behind = (is_claimed (30 ∷ 31 ∷ 33 ∷ 34 ∷ 35 ∷ 36 ∷ []) front behind ≡ false)
@@ -50,7 +48,7 @@ WrongClaimsFail front behind = (is_claimed (30 ∷ 31 ∷ 33 ∷ 34 ∷ 35 ∷ 3
 
 -- the fields of the two tables
 abbrev pub of_tables : List ℕ
-of_tables = set_of (30 ∷ 31 ∷ 32 ∷ 34 ∷ 35 ∷ 36 ∷ [])
+of_tables = 30 ∷ 31 ∷ 32 ∷ 34 ∷ 35 ∷ 36 ∷ []
 
 -- with other shares that fit the number and the total of a value, there is a rewritten one
 abbrev pub CompositeIsRewritten : List Row → List Row → Type 0

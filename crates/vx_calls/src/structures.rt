@@ -13,7 +13,7 @@ use vx_bits::{BitReader, BitWriter, Fields, ReadError, Refusal};
 use vx_table::{
     Part, Rewriter, Row, Scope, SpellError, Unwritten, depends_only_on, keep_parts, keep_table,
     keeps_only, parts_depend_only_on, parts_keep_only, pass_parts, pass_table, read_parts,
-    read_table, read_value, rewrite_parts, rewrite_table, set_of, write_parts, write_table,
+    read_table, read_value, rewrite_parts, rewrite_table, write_parts, write_table,
 };
 
 /// A structure: a table, tables some of which are there on a condition or in turns, or the one that has a part in direct style.
@@ -271,7 +271,7 @@ fn rewrite_text(
     let (shown, others) = (items_of(alloc, shown)?, items_of(alloc, &others[1..])?);
     let names = fields_of(alloc, fields)?;
     let mut rewriter = Rewriter::new(
-        set_of(&names),
+        &names,
         Unwritten::new(&shown, 0, shown.len()),
         Unwritten::new(&others, 0, others.len()),
     );

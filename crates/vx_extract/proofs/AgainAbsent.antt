@@ -7,7 +7,7 @@ use Rattle.vx_bits.specs.declared.list.Item.{Item}
 use Rattle.vx_fields.specs.declared.sps.TheConstants as fields
 use Rattle.vx_table.specs.declared.rows.Row.{Row}
 use Rattle.vx_table.specs.Claims.{hides_counter, hides_row}
-use Rattle.vx_table.specs.Depends.{Agree, set_of}
+use Rattle.vx_table.specs.Depends.{Agree}
 use Rattle.vx_table.specs.EachField.{sections_pass}
 use Rattle.vx_table.specs.Forms.{done, present}
 use Rattle.vx_table.specs.Loaded.{names_none, number}
@@ -78,7 +78,7 @@ undescribed of items set only undescribed_is =
     let q = parted (section_form (structure.with_subpictures SUBPICTURES) p.mid) (sections_form (places ++ from_ids)) p.second in
     let r = cut places from_ids q.mid q.second in
     let t = parted (section_form (structure.with_subpictures SUBPIC_IDS) r.mid) (sections_form behind) r.second in
-    let names : List ℕ = set_of (described ∷ []) in
+    let names : List ℕ = described ∷ [] in
     let here : slice_index p.mid described ≡ number items described =
     (leaves_agree names (sections_form from_counts) p.mid p.others set.end (sections_leave names from_counts refl) p.second).same described refl
     ∙ sym ((subst (λ xs. Agree names (loaded fresh xs) set.end) (sym set.all) ((sections_load names sps_sections refl).at fresh set.values set.end set.follows)).same described refl) in

@@ -9,7 +9,7 @@ use Rattle.vx_fields.specs.declared.pps.TheConstants as pps_fields
 use Rattle.vx_fields.specs.declared.ph.TheConstants as ph_fields
 use Rattle.vx_fields.specs.declared.rpl.TheConstants as rpl_fields
 use Rattle.vx_fields.specs.declared.names.ph.TheConstants.{EXTRA_PH_BITS}
-use Rattle.vx_table.specs.Depends.{Agree, has, set_of}
+use Rattle.vx_table.specs.Depends.{Agree, has}
 use Rattle.vx_table.specs.Forms.{has_value}
 use Rattle.vx_table.specs.Loaded.{code_below, number, range_below, row_below}
 use Rattle.vx_table.specs.Scope.{capped, fresh, is_set, natural}
@@ -84,11 +84,11 @@ all_of P each (n ∷ ns) = All-cons P n ns (each n) (all_of P each ns)
 
 -- fields of an SPS that are taken over, or say whether it describes subpictures and how long ids are; and what is no field of one
 abbrev of_sps : ℕ → Bool
-of_sps n = nat_le 400 n || (has (set_of taken_sps_fields) n || (n == 116 || n == 126))
+of_sps n = nat_le 400 n || (has taken_sps_fields n || (n == 116 || n == 126))
 
 -- fields of a PPS that are taken over; and what is none of one
 abbrev of_pps : ℕ → Bool
-of_pps n = (nat_lt n 400 || nat_le ph_fields.ph_gdr_or_irap_pic_flag n) || has (set_of taken_for_region) n
+of_pps n = (nat_lt n 400 || nat_le ph_fields.ph_gdr_or_irap_pic_flag n) || has taken_for_region n
 
 sps_fields_pass : (passes of_sps all_of_sets ≡ true) × (passes of_sps given ≡ true)
 unfolding fresh
@@ -117,8 +117,8 @@ unset n is = eqb-true n 0 (not-false (n == 0) is)
 module _ (target : ℕ) (level : Option ℕ) (q : Parts) (s p : List Item) (are : AreInForce q) (re : AreRewritten target level q s p) where
   -- ---- the SPS
 
-  taken_with : (of : ℕ) → IsTrue (has (set_of taken_sps_fields) of) → with_field of q.sps ≡ with_field of s
-  taken_with of is = same_with (set_of taken_sps_fields) of q.sps s is (sym re.of_sps.shown_ones)
+  taken_with : (of : ℕ) → IsTrue (has taken_sps_fields of) → with_field of q.sps ≡ with_field of s
+  taken_with of is = same_with taken_sps_fields of q.sps s is (sym re.of_sps.shown_ones)
 
   info_low : number q.sps sps_fields.sps_subpic_info_present_flag < 2
   unfolding has_value row_below code_below range_below
@@ -147,9 +147,9 @@ module _ (target : ℕ) (level : Option ℕ) (q : Parts) (s p : List Item) (are 
   ]
 
   sps_number : (n : ℕ) → of_sps n ≡ true → n < 400 → number q.sps n ≡ number s n
-  sps_number n pass low = elim (or_cases (nat_le 400 n) (has (set_of taken_sps_fields) n || (n == 116 || n == 126)) pass) [
+  sps_number n pass low = elim (or_cases (nat_le 400 n) (has taken_sps_fields n || (n == 116 || n == 126)) pass) [
     | inl high ↦ absurd (omega (arith, low, leb-true 400 n high))
-    | inr some ↦ elim (or_cases (has (set_of taken_sps_fields) n) (n == 116 || n == 126) some) [
+    | inr some ↦ elim (or_cases (has taken_sps_fields n) (n == 116 || n == 126) some) [
       | inl is ↦ sym (sps_taken q target level s re.of_sps n is)
       | inr either ↦ elim (or_cases (n == 116) (n == 126) either) [
         | inl info ↦ subst (λ m. number q.sps m ≡ number s m) (sym (eqb-true n 116 info)) same_info
@@ -175,18 +175,18 @@ module _ (target : ℕ) (level : Option ℕ) (q : Parts) (s p : List Item) (are 
 
   tables : TablesFollowItems → structures s ≡ structures q.sps
   unfolding fresh
-  tables follow = ap (λ b. table_of b s) weighted ∙ follow (is_weighted q.sps) (set_of taken_sps_fields) s q.sps refl refl re.of_sps.shown_ones
+  tables follow = ap (λ b. table_of b s) weighted ∙ follow (is_weighted q.sps) taken_sps_fields s q.sps refl refl re.of_sps.shown_ones
 
   -- ---- the PPS
 
-  pub pps_with : (of : ℕ) → IsTrue (has (set_of taken_for_region) of) → with_field of q.pps ≡ with_field of p
-  pps_with of is = same_with (set_of taken_for_region) of q.pps p is (sym re.of_pps.rewritten.shown_ones)
+  pub pps_with : (of : ℕ) → IsTrue (has taken_for_region of) → with_field of q.pps ≡ with_field of p
+  pps_with of is = same_with taken_for_region of q.pps p is (sym re.of_pps.rewritten.shown_ones)
 
-  pub pps_taken : (of : ℕ) → IsTrue (has (set_of taken_for_region) of) → number q.pps of ≡ number p of
-  pps_taken of is = number_of_shown (set_of taken_for_region) of q.pps is ∙ ap (λ xs. number xs of) (sym re.of_pps.rewritten.shown_ones) ∙ sym (number_of_shown (set_of taken_for_region) of p is)
+  pub pps_taken : (of : ℕ) → IsTrue (has taken_for_region of) → number q.pps of ≡ number p of
+  pps_taken of is = number_of_shown taken_for_region of q.pps is ∙ ap (λ xs. number xs of) (sym re.of_pps.rewritten.shown_ones) ∙ sym (number_of_shown taken_for_region of p is)
 
   pps_number : (n : ℕ) → of_pps n ≡ true → 400 ≤ n → n < ph_fields.ph_gdr_or_irap_pic_flag → number q.pps n ≡ number p n
-  pps_number n pass from upto = elim (or_cases (nat_lt n 400 || nat_le ph_fields.ph_gdr_or_irap_pic_flag n) (has (set_of taken_for_region) n) pass) [
+  pps_number n pass from upto = elim (or_cases (nat_lt n 400 || nat_le ph_fields.ph_gdr_or_irap_pic_flag n) (has taken_for_region n) pass) [
     | inl out ↦ elim (or_cases (nat_lt n 400) (nat_le ph_fields.ph_gdr_or_irap_pic_flag n) out) [
       | inl low ↦ absurd (omega (arith, from, ltb-true n 400 low))
       | inr high ↦ absurd (omega (arith, upto, leb-true ph_fields.ph_gdr_or_irap_pic_flag n high))
@@ -200,7 +200,7 @@ module _ (target : ℕ) (level : Option ℕ) (q : Parts) (s p : List Item) (are 
 
   -- ---- both
 
-  sets_agree : SetsAgree → Agree (set_of all_of_sets) (in_force q.sps q.pps) (in_force s p)
+  sets_agree : SetsAgree → Agree all_of_sets (in_force q.sps q.pps) (in_force s p)
   sets_agree agree = agree all_of_sets q.sps s q.pps p
       (all_pass of_sps (λ n. n < 400 → number q.sps n ≡ number s n) sps_number all_of_sets sps_fields_pass.0)
       (all_pass (λ n. of_pps n && no_name n) (λ n. 400 ≤ n → n ≢ EXTRA_PH_BITS → number q.pps n ≡ number p n)
@@ -210,18 +210,18 @@ module _ (target : ℕ) (level : Option ℕ) (q : Parts) (s p : List Item) (are 
       ]) all_of_sets both_pass)
       extra_ph
 
-  slices_agree : SliceScopesAgree → (nal_type : ℕ) (h : PictureHeader) → Agree (set_of given) (slice_scope nal_type q.sps q.pps h (in_force q.sps q.pps)) (slice_scope nal_type s p h (in_force s p))
+  slices_agree : SliceScopesAgree → (nal_type : ℕ) (h : PictureHeader) → Agree given (slice_scope nal_type q.sps q.pps h (in_force q.sps q.pps)) (slice_scope nal_type s p h (in_force s p))
   slices_agree agree nal_type h = agree given nal_type q.sps s q.pps p h h
       (all_pass of_sps (λ n. n < 400 → number q.sps n ≡ number s n) sps_number given sps_fields_pass.1)
       (all_pass of_pps (λ n. 400 ≤ n → n < ph_fields.ph_gdr_or_irap_pic_flag → number q.pps n ≡ number p n) pps_number given pps_fields_pass.1)
-      (all_of (λ n. ph_fields.ph_gdr_or_irap_pic_flag ≤ n → IsFalse (has (set_of beside) n) → number h.fields n ≡ number h.fields n) (λ n from other. refl) given)
+      (all_of (λ n. ph_fields.ph_gdr_or_irap_pic_flag ≤ n → IsFalse (has beside n) → number h.fields n ≡ number h.fields n) (λ n from other. refl) given)
       extra_sh (active 0) (active 1) refl refl
 
   same_lists : SetsAgree → TablesFollowItems → ListsFollowItems → (header : List Item) → lists_of (structures s) (in_force s p) header ≡ lists_of (structures q.sps) (in_force q.sps q.pps) header
   unfolding fresh
   same_lists agree follow lists header =
       ap (λ t. lists_of t (in_force s p) header) (tables follow)
-      ∙ sym (lists (structures q.sps) (set_of all_of_sets) (in_force q.sps q.pps) (in_force s p) (set_of rpl_fields.ALL) header header (sets_agree agree) refl refl refl refl refl refl)
+      ∙ sym (lists (structures q.sps) all_of_sets (in_force q.sps q.pps) (in_force s p) rpl_fields.ALL header header (sets_agree agree) refl refl refl refl refl refl)
 
   pub agree_for_headers : SetsAgree → SliceScopesAgree → TablesFollowItems → ListsFollowItems → AgreeForHeaders q s p
   agree_for_headers agree scopes follow lists = record {

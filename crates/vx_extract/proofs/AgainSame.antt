@@ -6,7 +6,6 @@ use Rattle.std.proofs.lemmas.List.FromFn.{get_or-map-range_with_len}
 use Rattle.vx_bits.specs.declared.list.Item.{Item}
 use Rattle.vx_fields.specs.declared.sps.TheConstants as sps_fields
 use Rattle.vx_fields.specs.declared.pps.TheConstants as pps_fields
-use Rattle.vx_table.specs.Depends.{set_of}
 use Rattle.vx_table.specs.Loaded.{number}
 use Rattle.vx_table.specs.Scope.{is_set}
 use Rattle.vx_table.specs.Shown.{shown_items}
@@ -69,4 +68,4 @@ same_again tells target level q r s t are others within same one two =
     let first : IsReshapedSps q.sps (shape_from q.sps target level) s = subst (λ x. IsReshapedSps q.sps x s) (shape_is tells q target level are within) one in
     let second : IsReshapedSps r.sps (shape_from r.sps target level) t = subst (λ x. IsReshapedSps r.sps x t) (shape_is tells r target level others inside) two in
     let moved : IsReshapedSps r.sps (shape_from r.sps target level) s = subst (λ x. IsReshapedSps x (shape_from x target level) s) same first in
-    rewrites_one_way sps_form (set_of taken_sps_fields) (shown_items (set_of taken_sps_fields) r.sps) (stated_sps_items r.sps (shape_from r.sps target level)) s t moved second
+    rewrites_one_way sps_form taken_sps_fields (shown_items taken_sps_fields r.sps) (stated_sps_items r.sps (shape_from r.sps target level)) s t moved second

@@ -5,7 +5,7 @@ use Rattle.std.proofs.lemmas.Bool.{cases_Bool, cases_eq, eq-eqb, eqb-true, lt-lt
 use Rattle.std.proofs.lemmas.List.{length-map}
 use Rattle.vx_bits.specs.declared.list.Item.{Item}
 use Rattle.vx_fields.specs.declared.sh.TheConstants.{sh_subpic_id}
-use Rattle.vx_table.specs.Depends.{Agree, set_of}
+use Rattle.vx_table.specs.Depends.{Agree}
 use Rattle.vx_table.specs.Loaded.{number}
 use Rattle.vx_layout.specs.declared.numbers.Numbers.{Numbers}
 use Rattle.vx_layout.specs.declared.rect.Rect.{Rect}
@@ -180,7 +180,7 @@ module _ (nest : CutsNest) (keeps : RegionKeepsSlices) (regions : (n : Numbers) 
     agree_at = record {
       table = sym agree.same_structures;
       sets = agree.sets;
-      slice = subst (λ h. Agree (set_of given) (slice_scope nal_type q.sps q.pps (picture_header_of (begun_in q)) (in_force q.sps q.pps)) (slice_scope nal_type s p h (in_force s p))) headers_same
+      slice = subst (λ h. Agree given (slice_scope nal_type q.sps q.pps (picture_header_of (begun_in q)) (in_force q.sps q.pps)) (slice_scope nal_type s p h (in_force s p))) headers_same
           (agree.slices nal_type (picture_header_of (begun_in q)));
       subpic = subpicture;
     }

@@ -2,7 +2,7 @@
 use Rattle.std.proofs.Common.{◌≡◌, ℕ, ◌<◌, Bool, true, false, cond, IsTrue, List, Option, refl, ap, sym, ◌∙◌, arith}
 use Rattle.vx_bits.specs.declared.list.Item.{Item}
 use Rattle.vx_fields.specs.declared.sps.TheConstants as fields
-use Rattle.vx_table.specs.Depends.{has, set_of}
+use Rattle.vx_table.specs.Depends.{has}
 use Rattle.vx_table.specs.Loaded.{number}
 use Rattle.vx_table.specs.Scope.{is_set}
 use Rattle.vx_table.proofs.Loading.{number_of_shown}
@@ -37,8 +37,8 @@ alone_count _ (described id_len id) = refl
 
 module _ (q : Parts) (target : ℕ) (level : Option ℕ) (items : List Item) (re : IsReshapedSps q.sps (sps_shape q target level) items) where
   -- a field that is taken over
-  pub sps_taken : (of : ℕ) → IsTrue (has (set_of taken_sps_fields) of) → number items of ≡ number q.sps of
-  sps_taken of is = number_of_shown (set_of taken_sps_fields) of items is ∙ ap (λ xs. number xs of) re.shown_ones ∙ sym (number_of_shown (set_of taken_sps_fields) of q.sps is)
+  pub sps_taken : (of : ℕ) → IsTrue (has taken_sps_fields of) → number items of ≡ number q.sps of
+  sps_taken of is = number_of_shown taken_sps_fields of items is ∙ ap (λ xs. number xs of) re.shown_ones ∙ sym (number_of_shown taken_sps_fields of q.sps is)
 
   -- ids
   pub sps_signals : AreInForce q → Signals (sps_shape q target level) items

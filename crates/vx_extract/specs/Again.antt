@@ -3,7 +3,7 @@ use Rattle.std.specs.List.{AllByRecursion}
 use Rattle.std.specs.Prelude.{◌≡◌, ℕ, ◌<◌, ◌≤◌, Bool, true, false, IsTrue, List, [], ◌∷◌, length, map, All, Option, Ok}
 use Rattle.vx_bits.specs.declared.list.Item.{Item}
 use Rattle.vx_layout.specs.Regions.{region_of}
-use Rattle.vx_table.specs.Depends.{Agree, set_of}
+use Rattle.vx_table.specs.Depends.{Agree}
 use Rattle.vx_sei.specs.Sei.{is_carried}
 use Rattle.vx_rpl.specs.HeaderLists.{lists_of}
 use Rattle.vx_sps.specs.Depends as sps_kept
@@ -84,9 +84,9 @@ pub record AgreeForHeaders (q : Parts) (sps pps : List Item) : Type 0 where
   pub same_structures : structures sps ≡ structures q.sps
   pub lists : (header : List Item)
       → lists_of (structures sps) (in_force sps pps) header ≡ lists_of (structures q.sps) (in_force q.sps q.pps) header
-  pub sets : Agree (set_of all_of_sets) (in_force q.sps q.pps) (in_force sps pps)
+  pub sets : Agree all_of_sets (in_force q.sps q.pps) (in_force sps pps)
   pub slices : (nal_type : ℕ) (h : PictureHeader)
-      → Agree (set_of given) (slice_scope nal_type q.sps q.pps h (in_force q.sps q.pps)) (slice_scope nal_type sps pps h (in_force sps pps))
+      → Agree given (slice_scope nal_type q.sps q.pps h (in_force q.sps q.pps)) (slice_scope nal_type sps pps h (in_force sps pps))
 
 abbrev pub RewrittenAgree : Type 0
 RewrittenAgree =

@@ -13,7 +13,7 @@ use Rattle.vx_layout.specs.Frames.{frame_slices}
 use Rattle.vx_layout.specs.Rects.{fits}
 use Rattle.vx_layout.proofs.Counting.{count_by-filter_all}
 use Rattle.vx_fit.specs.Placing.{in_ctus}
-use Rattle.vx_table.specs.Depends.{has, set_of}
+use Rattle.vx_table.specs.Depends.{has}
 use Rattle.vx_table.specs.Forms.{has_value}
 use Rattle.vx_table.specs.Loaded.{code_below, number, range_below, row_below}
 use Rattle.vx_table.specs.Scope.{capped, fresh, is_set, natural, powers_below}
@@ -86,22 +86,22 @@ module _ (signals : ReshapedSignals) (seed pictures n p : ℕ) (some : 1 ≤ n) 
 
   -- ---- its SPS
 
-  sps_taken : shown_items (set_of taken_sps_fields) q.begun.sps ≡ shown_items (set_of taken_sps_fields) generated_sps
-  sps_taken = is.sps.shown_ones ∙ ap (λ (x : Parts). shown_items (set_of taken_sps_fields) x.sps) first
+  sps_taken : shown_items taken_sps_fields q.begun.sps ≡ shown_items taken_sps_fields generated_sps
+  sps_taken = is.sps.shown_ones ∙ ap (λ (x : Parts). shown_items taken_sps_fields x.sps) first
 
   pub no_ph_bits : extra_ph_bits_of q.begun.sps ≡ 0
   unfolding fresh natural
-  no_ph_bits = same_flags sps_fields.sps_extra_ph_bit_present_flag (set_of taken_sps_fields) q.begun.sps generated_sps refl sps_taken
+  no_ph_bits = same_flags sps_fields.sps_extra_ph_bit_present_flag taken_sps_fields q.begun.sps generated_sps refl sps_taken
 
   no_sh_bits : extra_sh_bits_of q.begun.sps ≡ 0
   unfolding fresh natural
-  no_sh_bits = same_flags sps_fields.sps_extra_sh_bit_present_flag (set_of taken_sps_fields) q.begun.sps generated_sps refl sps_taken
+  no_sh_bits = same_flags sps_fields.sps_extra_sh_bit_present_flag taken_sps_fields q.begun.sps generated_sps refl sps_taken
 
   no_points : number q.begun.sps sps_fields.sps_entry_point_offsets_present_flag ≡ 0
   unfolding fresh natural
   no_points =
       let of : ℕ = sps_fields.sps_entry_point_offsets_present_flag in
-      number_of_shown (set_of taken_sps_fields) of q.begun.sps refl ∙ ap (λ xs. number xs of) sps_taken ∙ sym (number_of_shown (set_of taken_sps_fields) of generated_sps refl)
+      number_of_shown taken_sps_fields of q.begun.sps refl ∙ ap (λ xs. number xs of) sps_taken ∙ sym (number_of_shown taken_sps_fields of generated_sps refl)
 
   -- its ids are indices
   abbrev shape : SpsShape

@@ -2,7 +2,7 @@
 use Rattle.std.proofs.Common.{◌≡◌, ℕ, pos, true, IsTrue, IsFalse, List, [], ◌∷◌, ◌++◌, refl, sym, ap, subst, ◌∙◌, append_assoc, arith}
 use Rattle.vx_bits.specs.declared.list.Item.{Item}
 use Rattle.vx_fields.specs.declared.pps.TheConstants as pps
-use Rattle.vx_table.specs.Depends.{has, set_of}
+use Rattle.vx_table.specs.Depends.{has}
 use Rattle.vx_table.specs.Loaded.{number}
 use Rattle.vx_table.specs.Rewritten.{other_items}
 use Rattle.vx_table.specs.Scope.{fresh, is_set, natural}
@@ -70,7 +70,7 @@ module _ (source items : List Item) (shape : PpsShape) (re : IsReshapedPps sourc
   others = subst (λ b. other_items (names b) items ≡ re.others) merged re.rewritten.other_ones ∙ re.stated.all
       ∙ ap (λ b. begins ++ (re.stated.division ++ where_so b (frame_tool_items source shape.init_qp))) merged
 
-  by_info : (of : ℕ) → IsTrue (has (set_of (of ∷ [])) of) → IsFalse (has (names true) of)
+  by_info : (of : ℕ) → IsTrue (has (of ∷ []) of) → IsFalse (has (names true) of)
       → number items of ≡ number (front_ ++ info_items source) of
   by_info of is out =
       number_by_others (names true) of items is out ∙ ap (λ xs. number xs of) others

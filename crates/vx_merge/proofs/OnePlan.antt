@@ -6,7 +6,6 @@ use Rattle.std.proofs.lemmas.Bool.{cases_Bool}
 use Rattle.vx_bits.specs.declared.list.Item.{Item}
 use Rattle.vx_layout.specs.Frames.{frame_of}
 use Rattle.vx_fit.proofs.Single.{lines_one}
-use Rattle.vx_table.specs.Depends.{set_of}
 use Rattle.vx_table.specs.Shown.{shown_items}
 use Rattle.vx_table.specs.Values.{bits_along}
 use Rattle.vx_sps.specs.Depends.{taken_sps_fields}
@@ -91,7 +90,7 @@ module _ (round : List Parts) (ids : Ids) (b c : Begun) (x : HasMergedHeader rou
   header_one =
       let source : List Item = (picture_at round 0).header.fields in
       let shape = ph_shape round ids in
-      rewritten_one (header_form (structures b.sps) (in_force b.sps b.pps)) (set_of ph_kept.kept_ph_fields) (shown_items (set_of ph_kept.kept_ph_fields) source) (ph_reshaped.stated_ph_items b.sps shape) b.header c.header x.says.fields
+      rewritten_one (header_form (structures b.sps) (in_force b.sps b.pps)) ph_kept.kept_ph_fields (shown_items ph_kept.kept_ph_fields source) (ph_reshaped.stated_ph_items b.sps shape) b.header c.header x.says.fields
       (subst (λ s. ph_reshaped.AreReshapedInPictureHeader source shape s b.pps c.header) (sym sps) (subst (λ p. ph_reshaped.AreReshapedInPictureHeader source shape c.sps p c.header) (sym pps) y.says.fields))
 
   header_unit_one : b.temporal_id ≡ c.temporal_id → AllByRecursion AreBytes (option_to_list b.unit) → AllByRecursion AreBytes (option_to_list c.unit) → b.unit ≡ c.unit
@@ -141,7 +140,7 @@ module _ (corners : List Corner) (level : Option ℕ) (round : List Parts) (done
         is.frame.pictures ∙ ((λ j. frame_of (columns j) (rows j) (corners_in corners round) (layouts_in round)) ∙ sym of.frame.pictures)
 
     sps_one : p.begun.sps ≡ q.begun.sps
-    sps_one = rewritten_one sps_form (set_of taken_sps_fields) (shown_items (set_of taken_sps_fields) own.sps) (sps_reshaped.stated_sps_items own.sps (frame_sps_shape corners round level)) p.begun.sps q.begun.sps is.sps of.sps
+    sps_one = rewritten_one sps_form taken_sps_fields (shown_items taken_sps_fields own.sps) (sps_reshaped.stated_sps_items own.sps (frame_sps_shape corners round level)) p.begun.sps q.begun.sps is.sps of.sps
 
     plain_one : is.plain ≡ of.plain
     plain_one = frame_pps_one corners round p.begun.layout 0 own.pps is.plain of.plain is.frame.lines.vertical.rises is.frame.lines.horizontal.rises is.plain_is

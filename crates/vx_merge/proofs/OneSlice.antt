@@ -4,7 +4,6 @@ use Rattle.std.specs.List.{AllByRecursion, AllZip}
 use Rattle.std.proofs.lemmas.Int.{ints}
 use Rattle.vx_bits.specs.Codes.{bits_of}
 use Rattle.vx_bits.specs.declared.list.Item.{Item}
-use Rattle.vx_table.specs.Depends.{set_of}
 use Rattle.vx_table.specs.Forms.{◌>>=◌, form_of}
 use Rattle.vx_table.specs.Rewritten.{IsRewritten, other_items}
 use Rattle.vx_table.specs.Shown.{shown_items}
@@ -91,7 +90,7 @@ module _ (round : List Parts) (ids : Ids) (nal_type : ℕ) (b : Begun) (k : ℕ)
       → (x.header.fields ≡ y.header.fields) × (x.header.subpic ≡ y.header.subpic) × (u ≡ v)
   front_one u v x y bytes others =
       let place : in_force_at y.numbers ≡ in_force_at x.numbers = place_is y.numbers y.at ∙ sym (place_is x.numbers x.at) in
-      let names = set_of kept_fields in
+      let names = kept_fields in
       let says = stated_one x.numbers y.numbers x.shape y.shape x.at y.at x.says y.says in
       let first = x.reshaped.fields in
       let second = y.reshaped.fields in

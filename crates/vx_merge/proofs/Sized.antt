@@ -5,7 +5,6 @@ use Rattle.std.proofs.lemmas.List.{take_more}
 use Rattle.std.specs.List.{AllPairs, AllZip}
 use Rattle.vx_bits.specs.declared.list.Item.{Item}
 use Rattle.vx_fields.specs.declared.sps.TheConstants.{sps_log2_ctu_size_minus5}
-use Rattle.vx_table.specs.Depends.{set_of}
 use Rattle.vx_table.specs.Loaded.{number}
 use Rattle.vx_table.specs.Scope.{fresh}
 use Rattle.vx_table.proofs.Loading.{number_of_shown}
@@ -52,8 +51,8 @@ pub same_ctb : (s t : List Item) → sps_kept.kept_sps_items s ≡ sps_kept.kept
 unfolding fresh
 same_ctb s t same =
     let one : number s sps_log2_ctu_size_minus5 ≡ number t sps_log2_ctu_size_minus5 =
-    number_of_shown (set_of sps_kept.kept_sps_fields) sps_log2_ctu_size_minus5 s refl
-    ∙ (ap (λ items. number items sps_log2_ctu_size_minus5) same ∙ sym (number_of_shown (set_of sps_kept.kept_sps_fields) sps_log2_ctu_size_minus5 t refl)) in
+    number_of_shown sps_kept.kept_sps_fields sps_log2_ctu_size_minus5 s refl
+    ∙ (ap (λ items. number items sps_log2_ctu_size_minus5) same ∙ sym (number_of_shown sps_kept.kept_sps_fields sps_log2_ctu_size_minus5 t refl)) in
     ap (λ n. 2 ^ (n + 5)) one
 
 -- the one subpicture of a picture is all of it

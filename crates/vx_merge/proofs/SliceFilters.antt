@@ -7,7 +7,7 @@ use Rattle.std.proofs.lemmas.Option.{none-some, slice_get_within, get_or_from_sl
 use Rattle.vx_bits.specs.declared.list.Item.{Item}
 use Rattle.vx_fields.specs.declared.pps.TheConstants.{pps_alf_info_in_ph_flag}
 use Rattle.vx_fields.specs.declared.sps.TheConstants.{sps_alf_enabled_flag, sps_ccalf_enabled_flag, sps_chroma_format_idc}
-use Rattle.vx_table.specs.Depends.{Agree, has, set_of}
+use Rattle.vx_table.specs.Depends.{Agree, has}
 use Rattle.vx_table.specs.Forms.{form_of}
 use Rattle.vx_table.specs.Loaded.{number}
 use Rattle.vx_table.specs.Rewrites.{Takes}
@@ -130,7 +130,7 @@ module _ (has_filter : SliceHasFilter) (ids : ℕ → ℕ) (low : (n : ℕ) → 
     (header : IsHeader (structures q.sps) (in_force q.sps q.pps) q.header)
     (read : IsReadAt (at_sets q.kind.nal_type q.sps q.pps q.header q.ids q.layout) h)
     (enabled : is_set (number sps sps_alf_enabled_flag) ≡ true) where
-  agree : Agree (set_of kept_for_starred) (in_force q.sps q.pps) (in_force sps pps)
+  agree : Agree kept_for_starred (in_force q.sps q.pps) (in_force sps pps)
   agree = (same_kept_agree q.sps q.pps sps pps same).numbers
 
   -- kept fields of the SPS

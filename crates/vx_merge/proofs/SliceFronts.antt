@@ -12,7 +12,6 @@ use Rattle.vx_fields.specs.declared.sps.TheConstants as sps_fields
 use Rattle.vx_fields.specs.declared.ph.TheConstants as ph
 use Rattle.vx_fields.specs.declared.sh.TheConstants as sh
 use Rattle.vx_aps.specs.declared.aps.TheConstants as aps
-use Rattle.vx_table.specs.Depends.{set_of}
 use Rattle.vx_table.specs.Loaded.{number}
 use Rattle.vx_table.specs.Scope.{fresh, is_set}
 use Rattle.vx_table.specs.Shown.{shown_items}
@@ -219,12 +218,12 @@ module _ (round : List Parts) (n : RoundSets) (m : SliceNumbers) (are : IsInForc
     is_header = subst (λ s. IsHeader (structures s) (in_force s m.pps.now) m.header.now) (sym are.sps)
         (subst (λ p. IsHeader (structures n.sps.now) (in_force n.sps.now p) m.header.now) (sym are.pps) are.is)
 
-    fields_same : shown_items (set_of ph_kept.kept_ph_fields) m.header.now.fields ≡ shown_items (set_of ph_kept.kept_ph_fields) q.header.fields
+    fields_same : shown_items ph_kept.kept_ph_fields m.header.now.fields ≡ shown_items ph_kept.kept_ph_fields q.header.fields
     fields_same = are.says.fields.shown_ones ∙ sym alike_here.header
 
     lists_same : q.header.lists ≡ m.header.now.lists
     unfolding fresh
-    lists_same = header.lists ∙ (same_kept_agree q.sps q.pps m.sps.now m.pps.now kept).lists (set_of ph_kept.kept_ph_fields) q.header.fields
+    lists_same = header.lists ∙ (same_kept_agree q.sps q.pps m.sps.now m.pps.now kept).lists ph_kept.kept_ph_fields q.header.fields
         m.header.now.fields refl (sym fields_same) ∙ sym is_header.lists
 
     same_header : AreSameForSlices q.header m.header.now

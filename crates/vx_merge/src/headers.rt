@@ -2,7 +2,6 @@
 ghost use Rattle.std.specs.Prelude.{◌≡◌, ◌≢◌, ◌<◌, ◌≤◌, ◌∷◌, [], length, IfOk, option_copied};
 ghost use Rattle.std.specs.Bool.{OnTrue, OnFalse};
 ghost use Rattle.vx_fit.specs.Lowest.{IsLowestAnswer};
-ghost use Rattle.vx_table.specs.Depends.{set_of};
 ghost use Rattle.vx_table.specs.Loaded as loaded;
 ghost use Rattle.vx_ph.specs.Depends as header_kept;
 ghost use Rattle.vx_pic.specs.Differences.{differing_field as differing};
@@ -31,7 +30,6 @@ use vx_pic::{
 };
 use vx_rpl::RefLists;
 use vx_sh::SliceHeader;
-use vx_table::Scope;
 
 // ---- the kind
 
@@ -200,8 +198,8 @@ fn has_other_scaling(round: &[Picture<'_>], lowest: Option<u16>, k: usize) -> bo
 // ---- the header
 
 /// The kept fields of a picture's header, which are of these.
-fn kept_header(alloc: Global, picture: &Picture<'_>, fields: &Scope) -> Result<Kept, AllocError>
-    requires { fields.now ≡ set_of header_kept.kept_ph_fields }
+fn kept_header(alloc: Global, picture: &Picture<'_>, fields: &[u16]) -> Result<Kept, AllocError>
+    requires { fields.now ≡ header_kept.kept_ph_fields }
     ensures { IfOk result (λ kept. kept ≡ rules.kept_header picture.now) }
 {
     let kept = kept_among(alloc, &picture.header().fields, fields)?;
@@ -212,10 +210,10 @@ fn kept_header(alloc: Global, picture: &Picture<'_>, fields: &Scope) -> Result<K
 fn kept_header_field(
     alloc: Global,
     picture: &Picture<'_>,
-    fields: &Scope,
+    fields: &[u16],
     first: &Kept,
 ) -> Result<Option<u16>, AllocError>
-    requires { fields.now ≡ set_of header_kept.kept_ph_fields }
+    requires { fields.now ≡ header_kept.kept_ph_fields }
     ensures { IfOk result (λ field. field ≡ differing (rules.kept_header picture.now) first.now) }
 {
     let own = kept_header(alloc, picture, fields)?;
@@ -226,13 +224,13 @@ fn kept_header_field(
 fn header_field(
     alloc: Global,
     round: &[Picture<'_>],
-    fields: &Scope,
+    fields: &[u16],
     first: &Kept,
     lowest: Option<u16>,
     k: usize,
 ) -> Result<Option<u16>, AllocError>
     requires k { k < length round.now }
-    requires fields { fields.now ≡ set_of header_kept.kept_ph_fields }
+    requires fields { fields.now ≡ header_kept.kept_ph_fields }
     requires first { first.now ≡ rules.kept_header (picture_at round.now 0) }
     requires lowest { IsLowestWith bodies.has_lmcs round.now lowest }
     ensures { IfOk result (TellsField (rules.picture_header round.now).breaks (rules.header_field round.now) k) }
@@ -274,10 +272,10 @@ fn lowest_other_header(
     if have_same_items(round) {
         return Ok(None);
     }
-    let fields = header_fields();
-    let first = kept_header(alloc, &round[0], &fields)?;
+    let fields = header_fields(alloc)?;
+    let first = kept_header(alloc, &round[0], fields.as_slice())?;
     for k in 0..round.len() {
-        let field = header_field(alloc, round, &fields, &first, lowest, k)?;
+        let field = header_field(alloc, round, fields.as_slice(), &first, lowest, k)?;
         if let Some(field) = field {
             return Ok(Some(Differing {
                 source: k as u16,

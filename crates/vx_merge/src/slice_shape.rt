@@ -2,7 +2,7 @@
 ghost use Rattle.std.specs.Prelude.{◌≡◌, pos, neg_ℤ, ◌+ℤ◌, ◌-ℤ◌, ◌≤ℤ◌, true, length, map, option_copied, IfOk};
 ghost use Rattle.vx_fields.specs.declared.alf.TheConstants as alf_fields;
 ghost use Rattle.vx_fields.specs.declared.pps.TheConstants as pps_fields;
-ghost use Rattle.vx_table.specs.Depends.{has, set_of};
+ghost use Rattle.vx_table.specs.Depends.{has};
 ghost use Rattle.vx_aps.specs.declared.aps.TheConstants as types;
 ghost use Rattle.vx_ph.specs.Filter.{filter_of, set_ids, with_ids};
 ghost use Rattle.vx_pic.specs.Inputs as inputs;
@@ -49,14 +49,14 @@ const NAMING: [u16; 4] = [
 
 /// Whether a field is one of a filter. Their numbers follow on one another.
 fn is_of_filter(field: u16) -> bool
-    ensures { result ≡ has (set_of alf_fields.ALL) field }
+    ensures { result ≡ has alf_fields.ALL field }
 {
     alf_enabled_flag <= field && field <= alf_cc_cr_aps_id
 }
 
 /// Whether a field is one of a filter that names a set.
 fn names_set(field: u16) -> bool
-    ensures { result ≡ has (set_of set_ids) field }
+    ensures { result ≡ has set_ids field }
 {
     NAMING.contains(&field)
 }

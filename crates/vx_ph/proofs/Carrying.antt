@@ -1,12 +1,12 @@
 -- What is known goes along a picture header; which of its fields are shown and kept.
-use Rattle.std.proofs.Common.{◌≡◌, ℕ, true, List, refl}
+use Rattle.std.proofs.Common.{◌++◌, ◌≡◌, ℕ, true, List, refl}
 use Rattle.vx_table.specs.declared.rows.Term.TheVariants.{Latest}
 use Rattle.vx_table.specs.declared.rows.Formula.TheVariants.{Plain}
 use Rattle.vx_table.specs.declared.rows.Presence.TheVariants.{When}
 use Rattle.vx_table.specs.Scope.{fresh}
 use Rattle.vx_table.specs.Forms.{has_value, ◌>>=◌}
 use Rattle.vx_table.specs.Parts.{sections_form}
-use Rattle.vx_table.specs.Depends.{with_all, set_of, Carries}
+use Rattle.vx_table.specs.Depends.{Carries}
 use Rattle.vx_table.specs.Claims.{knows_formula, knows_width, knows_range, knows_presence, hides_counter, hides_row, behind_field, within_block, depends, behind_rows, table_depends, behind_table, comes_always, sections_chain, behind_sections}
 use Rattle.vx_table.proofs.Chains.{sections_carry, carries_together, carries_present, chains_depend}
 use Rattle.vx_fields.specs.declared.pps.TheConstants.{pps_rpl_info_in_ph_flag}
@@ -40,9 +40,9 @@ header_carries table shown a b c at_front b_is knows_lists at_lists at_middle c_
 pub all_depend : AllDepend
 unfolding fresh has_value knows_formula knows_width knows_range knows_presence hides_counter hides_row behind_field within_block depends behind_rows table_depends behind_table comes_always list_chains known_behind_list first_chains behind_first second_chains known_behind_second lists_chain behind_lists
 all_depend table = chains_depend all_of_sets of_header _ (header_form table)
-    (header_carries table (with_all (set_of all_of_sets) of_header) (set_of all_of_sets) _ _ refl refl refl refl refl refl refl refl refl)
+    (header_carries table (all_of_sets ++ of_header) all_of_sets _ _ refl refl refl refl refl refl refl refl refl)
 
 pub kept_depend : KeptDepend
 unfolding fresh has_value knows_formula knows_width knows_range knows_presence hides_counter hides_row behind_field within_block depends behind_rows table_depends behind_table comes_always list_chains known_behind_list first_chains behind_first second_chains known_behind_second lists_chain behind_lists
 kept_depend table = chains_depend kept_of_sets kept_with_names _ (header_form table)
-    (header_carries table (with_all (set_of kept_of_sets) kept_with_names) (set_of kept_of_sets) _ _ refl refl refl refl refl refl refl refl refl)
+    (header_carries table (kept_of_sets ++ kept_with_names) kept_of_sets _ _ refl refl refl refl refl refl refl refl refl)

@@ -1,12 +1,12 @@
 -- A form that reads few numbers has as few bits as at a scope that has these alone.
-use Rattle.std.proofs.Common.{◌≡◌, ℕ, ◌≤◌, true, nat_lt, List, [], ◌∷◌, length, get_or, slice_index, slice_set, refl, ap, sym, ◌∙◌, inl, inr, arith}
+use Rattle.std.proofs.Common.{◌≡◌, ℕ, ◌≤◌, true, nat_lt, List, [], ◌∷◌, ◌++◌, length, get_or, slice_index, slice_set, refl, ap, sym, ◌∙◌, inl, inr, arith}
 use Rattle.std.specs.Prelude.{All, nat_le}
 use Rattle.std.proofs.lemmas.Bool.{and_parts, cases_eq, leb-true, ltb-true}
 use Rattle.std.proofs.lemmas.Grind.{get_or-set_at}
 use Rattle.std.proofs.lemmas.List.{get_or-set_other, length-replicate, length-set}
 use Rattle.std.proofs.lemmas.List.Elements.{All-cons, All-head, All-nil, All-tail}
 use Rattle.vx_table.specs.laws.Again.{AlwaysShown}
-use Rattle.vx_table.specs.Depends.{Agree, DependsOnlyOn, set_of, with_all}
+use Rattle.vx_table.specs.Depends.{Agree, DependsOnlyOn}
 use Rattle.vx_table.specs.Forms.{Form}
 use Rattle.vx_table.specs.Scope.{fresh}
 use Rattle.vx_table.specs.laws.Sizes.{Bound, EachSpelling, IsShort, IsWithin, greatest}
@@ -51,17 +51,17 @@ keeps_bound : (low high : List Bound) (s : List ℕ) → IsWithin low s → (n :
 keeps_bound low high s within n test = let less = leb-true (greatest low n) (greatest high n) test in let few = within.at n in omega (arith, less, few)
 
 pub few_by_given : (given others : List ℕ) (form : List ℕ → Form (List ℕ)) (low high : List Bound) (bits : ℕ) → passes (λ n. nat_lt n 1024) given ≡ true
-    → passes (λ n. nat_le (greatest low n) (greatest high n)) given ≡ true → DependsOnlyOn given others form → AlwaysShown (with_all (set_of given) others) form
+    → passes (λ n. nat_le (greatest low n) (greatest high n)) given ≡ true → DependsOnlyOn given others form → AlwaysShown (given ++ others) form
     → ((t : List ℕ) → IsWithin high t → IsShort high bits (form t)) → (s : List ℕ) → length s ≡ 1024 → IsWithin low s → EachSpelling (form s) (λ size end. size ≤ bits)
 few_by_given given others form low high bits small keeps depends shown few s long within = record {
   at = λ place values end follows.
       let t : List ℕ = copied s given in
       let same = copied_same s given small in
-      let agree : Agree (set_of given) s t = record {
+      let agree : Agree given s t = record {
         size = long ∙ sym (copied_length s given);
         same = λ n there. sym (named (λ m. slice_index t m ≡ slice_index s m) given n same there);
       } in
-      let again = follows_again (with_all (set_of given) others) (set_of given) (form s) (form t) values end (depends.alike s t agree) (shown.at s) (shown.at t) follows in
+      let again = follows_again (given ++ others) given (form s) (form t) values end (depends.alike s t agree) (shown.at s) (shown.at t) follows in
       let bounded : IsWithin high t = copied_within high s given (all_pass (λ n. nat_le (greatest low n) (greatest high n)) (λ n. slice_index s n ≤ greatest high n) (keeps_bound low high s within) given keeps) in
       let less = ((few t bounded).at place values again.last again.follows).0 in
       omega (arith, less, ap length (again.bits place));

@@ -12,7 +12,7 @@ use Rattle.vx_table.specs.declared.rows.Row.{Row}
 use Rattle.vx_table.specs.declared.rows.Row.TheVariants.{Block, Name}
 use Rattle.vx_table.specs.laws.Absence.{AreZero, AreHidden, IsAbsent, is_zero, never_comes, rows_hide, table_hides}
 use Rattle.vx_table.specs.Claims.{hides, hides_counter, hides_row, sections_hide}
-use Rattle.vx_table.specs.Depends.{has, set_of, Leaves}
+use Rattle.vx_table.specs.Depends.{has, Leaves}
 use Rattle.vx_table.specs.Forms.{Form, done, ◌>>=◌, form_of, present}
 use Rattle.vx_table.specs.Loaded.{number}
 use Rattle.vx_table.specs.Parts.{Section, always, section_form, sections_form}
@@ -116,7 +116,7 @@ header_hides names zeros table named left filter maps =
 
 -- one field or name alone
 abbrev pub only : ℕ → List ℕ
-only n = set_of (n ∷ [])
+only n = n ∷ []
 
 -- a flag that isn't set, which the scope has
 pub zero_alone : (flag : ℕ) (s : List ℕ) (k : ℕ) → slice_index s flag ≡ k → is_set k ≡ false → AreZero (only flag) s
@@ -196,10 +196,10 @@ chroma_off table =
     (tables_hide names zeros (take 3 (drop 4 LMCS_AND_SCALING)) refl))
     (left_rows names zeros (drop 7 LMCS_AND_SCALING) refl refl)))))
 
-filter_off : (table : RplTable) → AreHidden (set_of alf.ALL) (only sps_fields.sps_alf_enabled_flag) (header_form table)
+filter_off : (table : RplTable) → AreHidden alf.ALL (only sps_fields.sps_alf_enabled_flag) (header_form table)
 unfolding fresh hides_counter hides_row present value
 filter_off table =
-    let names = set_of alf.ALL in
+    let names = alf.ALL in
     let zeros = only sps_fields.sps_alf_enabled_flag in
     header_hides names zeros table (elsewhere names refl refl refl refl refl refl refl refl refl) (elsewhere zeros refl refl refl refl refl refl refl refl refl)
     record { at = λ s are. let none = are.at sps_fields.sps_alf_enabled_flag refl in rw none are }
@@ -221,4 +221,4 @@ unfolding fresh
 no_chroma_scaling sps pps header is off = is_off ph.ph_chroma_residual_scale_flag sps_fields.sps_chroma_format_idc sps pps header refl (chroma_off (structures sps)) (omega arith) is off
 
 pub no_filter : NoFilter
-no_filter sps pps header is off = none_shown (set_of alf.ALL) sps_fields.sps_alf_enabled_flag sps pps header (filter_off (structures sps)) (omega arith) is off
+no_filter sps pps header is off = none_shown alf.ALL sps_fields.sps_alf_enabled_flag sps pps header (filter_off (structures sps)) (omega arith) is off

@@ -8,7 +8,7 @@ use Rattle.vx_table.specs.declared.rows.Presence.TheVariants.{When}
 use Rattle.vx_table.specs.declared.rows.Row.TheVariants.{Field}
 use Rattle.vx_table.specs.declared.rows.Term.TheVariants.{Latest}
 use Rattle.vx_table.specs.Claims.{hides_counter, hides_row}
-use Rattle.vx_table.specs.Depends.{has, set_of}
+use Rattle.vx_table.specs.Depends.{has}
 use Rattle.vx_table.specs.EachField.{EachField}
 use Rattle.vx_table.specs.Forms.{Form, ◌>>=◌, form_of, present}
 use Rattle.vx_table.specs.laws.Again.{AllShown, shows_row}
@@ -41,7 +41,7 @@ use Rattle.vx_ph.proofs.Rewriting.{filter_if, filter_section}
 
 -- the filter's fields
 abbrev pub of_filter : List ℕ
-of_filter = set_of alf.ALL
+of_filter = alf.ALL
 
 -- ---- parts that have none of them
 
@@ -83,7 +83,7 @@ abbrev behind_filter : List Section
 behind_filter = always LMCS_AND_SCALING ∷ always OUTPUT ∷ []
 
 abbrev reads : List ℕ
-reads = set_of (sps_alf_enabled_flag ∷ pps_alf_info_in_ph_flag ∷ sps_chroma_format_idc ∷ sps_ccalf_enabled_flag ∷ [])
+reads = sps_alf_enabled_flag ∷ pps_alf_info_in_ph_flag ∷ sps_chroma_format_idc ∷ sps_ccalf_enabled_flag ∷ []
 
 is_there : (s : List ℕ) → is_set (slice_index s sps_alf_enabled_flag) ≡ true → is_set (slice_index s pps_alf_info_in_ph_flag) ≡ true → filter_if s ≡ form_of ALF s
 unfolding filter_if present value

@@ -15,7 +15,7 @@ use Rattle.vx_table.specs.Forms.{Form, ◌>>=◌, form_of, has_value}
 use Rattle.vx_table.specs.Parts.{Section, sections_form}
 use Rattle.vx_table.specs.Spelling.{Spells, items_along}
 use Rattle.vx_table.specs.Values.{Follows, to_end, through}
-use Rattle.vx_table.specs.Depends.{has, with_all, set_of, Agree, IsLeft, Leaves}
+use Rattle.vx_table.specs.Depends.{has, Agree, IsLeft, Leaves}
 use Rattle.vx_table.specs.Claims.{knows_formula, knows_width, knows_range, knows_presence, hides_counter, hides_row, behind_field, within_block, depends, behind_rows, table_depends, behind_table, comes_always}
 use Rattle.vx_table.specs.Named.{named_by_all}
 use Rattle.vx_table.specs.Shown.{shown_items}
@@ -35,7 +35,6 @@ use Rattle.vx_fields.specs.declared.names.ph.TheConstants.{HAS_WEIGHTS}
 use Rattle.vx_rpl.specs.declared.entry.RplTable.{RplTable}
 use Rattle.vx_rpl.specs.Lists.{lists_form, weights, weights_form}
 use Rattle.vx_rpl.proofs.Passing.{lists_leave}
-use Rattle.vx_ph.proofs.Sets.{no_name}
 use Rattle.vx_ph.proofs.Opening.{spelled_is_read, unit_spells}
 use Rattle.vx_ph.proofs.Spelling.{spells_follow}
 use Rattle.vx_ph.specs.Header.{ph_before_lists, lists_if_present, middle, weights_if_present, back, ph_before_weights, header_form}
@@ -51,14 +50,14 @@ pub id_at_end : (values : List ℤ) (end : List ℕ) → Follows pps_id_form val
     × (number (items_along pps_id_form values) ph_pic_parameter_set_id < 64)
 unfolding pps_id_form fresh names_none hides_counter has_value code_below range_below row_below
 id_at_end values end follows = (
-  ((sections_load (set_of (ph_pic_parameter_set_id ∷ [])) to_id refl).at fresh values end follows).same ph_pic_parameter_set_id refl,
+  ((sections_load (ph_pic_parameter_set_id ∷ []) to_id refl).at fresh values end follows).same ph_pic_parameter_set_id refl,
   number_below ph_pic_parameter_set_id 64 pps_id_form values end (omega arith) (sections_stay_below ph_pic_parameter_set_id 64 to_id fresh (omega arith) refl) follows,
 )
 
 -- ---- the id of a header
 
 the_id : List ℕ
-the_id = set_of (ph_pic_parameter_set_id ∷ [])
+the_id = ph_pic_parameter_set_id ∷ []
 
 left_shown : (names s : List ℕ) {f : Form (List ℕ)} {w : List ℤ} {a : List ℕ} → IsLeft names s f → Follows f w a → shown_items names (items_along f w) ≡ []
 left_shown names s left to_end = refl
@@ -122,15 +121,15 @@ has_id_before : (table : RplTable) (s : List ℕ) (total : ℕ) (left : List Boo
 unfolding pps_id_form the_id fresh has_value knows_formula knows_width knows_range knows_presence hides_counter hides_row behind_field within_block depends behind_rows table_depends behind_table comes_always shows_row
 has_id_before table s total left items long begins =
     let b = begins_id table s total left items begins in
-    let shown = with_all (set_of []) (named_by_all to_id) in
-    let agree : Agree (set_of []) s fresh = record { size = long ∙ sym (length-replicate {A = ℕ} 1024 0); same = λ n there. absurd (false≢true (sym (no_name n) ∙ there)) } in
+    let shown = [] ++ named_by_all to_id in
+    let agree : Agree [] s fresh = record { size = long ∙ sym (length-replicate {A = ℕ} 1024 0); same = λ n there. absurd (false≢true there) } in
     let alike = (structure_depends_only_on [] (named_by_all to_id) to_id refl).alike s fresh agree in
     let all = sections_show shown to_id refl in
-    let again = follows_again shown (set_of []) (sections_form to_id s) (sections_form to_id fresh) b.values b.end alike (all.at s) (all.at fresh) b.follows in
+    let again = follows_again shown [] (sections_form to_id s) (sections_form to_id fresh) b.values b.end alike (all.at s) (all.at fresh) b.follows in
     record {
       values = b.values;
       rest = b.rest;
-      spelled = reads_again shown (set_of []) (sections_form to_id s) (sections_form to_id fresh) total b.values left b.rest alike (all.at s) (all.at fresh) b.spelled;
+      spelled = reads_again shown [] (sections_form to_id s) (sections_form to_id fresh) total b.values left b.rest alike (all.at s) (all.at fresh) b.spelled;
       same = number_of_shown the_id ph_pic_parameter_set_id items refl
           ∙ ap (λ some. number some ph_pic_parameter_set_id) (b.same ∙ ap (shown_items the_id) (sym again.items))
           ∙ sym (number_of_shown the_id ph_pic_parameter_set_id (items_along pps_id_form b.values) refl);

@@ -6,7 +6,7 @@ use Rattle.vx_table.specs.Scope.{fresh, is_set, natural, one_if, value}
 use Rattle.vx_table.specs.Forms.{after, coding_at, form_of, has_value, limits_at, one_field, part, present}
 use Rattle.vx_table.specs.Spelling.{HasCode, fault_of, item_of}
 use Rattle.vx_table.specs.Values.{to_end, through}
-use Rattle.vx_table.specs.Depends.{Agree, set_of, with_all}
+use Rattle.vx_table.specs.Depends.{Agree}
 use Rattle.vx_table.specs.Claims.{behind_field, behind_rows, behind_table, depends, hides_counter, hides_row, knows_formula, knows_presence, knows_range, knows_width, table_depends, within_block}
 use Rattle.vx_table.specs.Named.{named_by}
 use Rattle.vx_table.specs.laws.Again.{shows_row}
@@ -68,7 +68,7 @@ abbrev of_maps : List ℕ
 of_maps = sps_chroma_format_idc ∷ sps_lmcs_enabled_flag ∷ sps_explicit_scaling_list_enabled_flag ∷ []
 
 small_agrees : (t : List ℕ) → length t ≡ 1024
-    → Agree (set_of of_maps) (small (slice_index t sps_chroma_format_idc) (slice_index t sps_lmcs_enabled_flag) (slice_index t sps_explicit_scaling_list_enabled_flag)) t
+    → Agree of_maps (small (slice_index t sps_chroma_format_idc) (slice_index t sps_lmcs_enabled_flag) (slice_index t sps_explicit_scaling_list_enabled_flag)) t
 unfolding small fresh
 small_agrees t size = agree_given of_maps (sym size) (refl, (refl, (refl, tt)))
 
@@ -81,8 +81,8 @@ maps_take t lmcs scaling size low_c low_l low_k a b =
     let c = slice_index t sps_chroma_format_idc in
     let l = slice_index t sps_lmcs_enabled_flag in
     let k = slice_index t sps_explicit_scaling_list_enabled_flag in
-    let shown : List ℕ = with_all (set_of of_maps) (named_by LMCS_AND_SCALING) in
-    let carries = table_carries shown (set_of of_maps) LMCS_AND_SCALING refl in
+    let shown : List ℕ = of_maps ++ named_by LMCS_AND_SCALING in
+    let carries = table_carries shown of_maps LMCS_AND_SCALING refl in
     let all = tables_show shown LMCS_AND_SCALING refl in
     takes_again shown _ (form_of LMCS_AND_SCALING (small c l k)) (form_of LMCS_AND_SCALING t) (said c l k lmcs scaling)
-    (carries.alike (inside_with_all (set_of of_maps) (named_by LMCS_AND_SCALING)) (small c l k) t (small_agrees t size)) (all.at (small c l k)) (all.at t) (small_takes c l k lmcs scaling low_c low_l low_k a b)
+    (carries.alike (inside_with_all of_maps (named_by LMCS_AND_SCALING)) (small c l k) t (small_agrees t size)) (all.at (small c l k)) (all.at t) (small_takes c l k lmcs scaling low_c low_l low_k a b)

@@ -1,5 +1,5 @@
 -- What tests over the rows of a picture header say of each of its fields.
-use Rattle.std.proofs.Common.{◌≡◌, ℕ, Bool, true, List, refl}
+use Rattle.std.proofs.Common.{◌++◌, ◌≡◌, ℕ, Bool, true, List, refl}
 use Rattle.vx_table.specs.declared.rows.Formula.{Formula}
 use Rattle.vx_table.specs.declared.rows.Term.TheVariants.{Latest}
 use Rattle.vx_table.specs.declared.rows.Formula.TheVariants.{Plain}
@@ -12,7 +12,6 @@ use Rattle.vx_table.specs.Forms.{◌>>=◌, has_value, cell_at}
 use Rattle.vx_table.specs.Parts.{sections_form}
 use Rattle.vx_table.specs.EachField.{EachField, sections_pass}
 use Rattle.vx_table.specs.Kept.{stands_for_field}
-use Rattle.vx_table.specs.Depends.{with_all, set_of}
 use Rattle.vx_table.specs.Shown.{star_tells}
 use Rattle.vx_table.specs.laws.Again.{shows_row}
 use Rattle.vx_table.proofs.EachField.{each_then, each_present, each_of_sections}
@@ -55,18 +54,18 @@ header_each P test sound table s pass =
 pub shows_all : ShowsAll
 unfolding fresh shows_row
 shows_all table = record {
-  at = λ s. header_each _ (shows_row (with_all (set_of all_of_sets) of_header)) (λ c t h. h) table s
+  at = λ s. header_each _ (shows_row (all_of_sets ++ of_header)) (λ c t h. h) table s
       (record { front = refl; lists = refl; middle = refl; weights = refl; back = refl });
 }
 
 pub keeps_kept : KeepsKept
 unfolding fresh has_value star_tells stands_for_field
 keeps_kept table = record {
-  keeps = λ s. header_each _ (star_tells (with_all (set_of kept_of_sets) kept_ph_fields)) (λ c t h. starred (with_all (set_of kept_of_sets) kept_ph_fields) c t h) table s
+  keeps = λ s. header_each _ (star_tells (kept_of_sets ++ kept_ph_fields)) (λ c t h. starred (kept_of_sets ++ kept_ph_fields) c t h) table s
       (record { front = refl; lists = refl; middle = refl; weights = refl; back = refl });
 }
 
 pub header_read_again : HeaderReadAgain
 header_read_again table s t old new items after result agree reads =
-    answers_again (with_all (set_of all_of_sets) of_header) (set_of all_of_sets) (header_form table s) (header_form table t) old new items after result
+    answers_again (all_of_sets ++ of_header) all_of_sets (header_form table s) (header_form table t) old new items after result
     ((all_depend table).alike s t agree) ((shows_all table).at s) ((shows_all table).at t) reads

@@ -17,7 +17,7 @@ use Rattle.vx_table.specs.declared.rows.Row.{Row}
 use Rattle.vx_table.specs.declared.rows.Row.TheVariants.{Field, Block, Name}
 use Rattle.vx_table.specs.declared.rows.Term.TheVariants.{Latest, Number}
 use Rattle.vx_table.specs.Claims.{behind_field, behind_rows, behind_table, depends, hides_counter, hides_row, knows_cell, knows_formula, knows_presence, knows_range, knows_width, table_depends, within_block}
-use Rattle.vx_table.specs.Depends.{Agree, has, set_of, with_all}
+use Rattle.vx_table.specs.Depends.{Agree, has}
 use Rattle.vx_table.specs.EachField.{EachField, rows_pass}
 use Rattle.vx_table.specs.Forms.{Form, done, field, ◌>>=◌, after, cell_at, coding_at, form_of, has_value, limits_at, one_field, part, present, turns}
 use Rattle.vx_table.specs.Named.{named_by}
@@ -40,7 +40,7 @@ use Rattle.vx_ph.specs.declared.tables.TheConstants.{ALF}
 use Rattle.vx_ph.specs.Filter.{FilterGoesAgain, set_ids, with_ids}
 
 abbrev is_id : ℕ → Bool
-is_id n = has (set_of set_ids) n
+is_id n = has set_ids n
 
 -- ---- one form as another, but for the values of ids
 
@@ -235,8 +235,8 @@ module _ (ids : ℕ → ℕ) (low : (n : ℕ) → ids n < 8) where
 -- ---- the filter
 
 known_there : List ℕ
-known_there = set_of (sps_chroma_format_idc ∷ sps_ccalf_enabled_flag ∷ alf.alf_enabled_flag ∷ alf.num_alf_aps_ids_luma ∷ alf.alf_cb_enabled_flag ∷ alf.alf_cr_enabled_flag ∷ alf.alf_cc_cb_enabled_flag
-    ∷ alf.alf_cc_cr_enabled_flag ∷ FILTER_SET ∷ [])
+known_there = sps_chroma_format_idc ∷ sps_ccalf_enabled_flag ∷ alf.alf_enabled_flag ∷ alf.num_alf_aps_ids_luma ∷ alf.alf_cb_enabled_flag ∷ alf.alf_cr_enabled_flag ∷ alf.alf_cc_cb_enabled_flag
+    ∷ alf.alf_cc_cr_enabled_flag ∷ FILTER_SET ∷ []
 
 filter_renamed : (s : List ℕ) → Renamed known_there (form_of ALF s) (form_of ALF s)
 unfolding form_of known_there fresh reads_none knows_formula knows_width knows_range knows_presence
@@ -254,10 +254,10 @@ pub filter_again : (s t : List ℕ) (filter : List Item) → length s ≡ length
     → Takes (form_of ALF s) filter → Takes (form_of ALF t) filter
 unfolding fresh has_value knows_formula knows_width knows_range knows_presence hides_counter hides_row behind_field within_block depends behind_rows table_depends behind_table shows_row
 filter_again s t filter size chroma cross takes =
-    let shown : List ℕ = with_all (set_of of_filter) (named_by ALF) in
-    let carries = table_carries shown (set_of of_filter) ALF refl in
+    let shown : List ℕ = of_filter ++ named_by ALF in
+    let carries = table_carries shown of_filter ALF refl in
     let all = tables_show shown ALF refl in
-    takes_again shown _ (form_of ALF s) (form_of ALF t) filter (carries.alike (inside_with_all (set_of of_filter) (named_by ALF)) s t (agree_given of_filter size (chroma, (cross, tt)))) (all.at s) (all.at t) takes
+    takes_again shown _ (form_of ALF s) (form_of ALF t) filter (carries.alike (inside_with_all of_filter (named_by ALF)) s t (agree_given of_filter size (chroma, (cross, tt)))) (all.at s) (all.at t) takes
 
 pub filter_goes_again : FilterGoesAgain
 filter_goes_again ids s t items low size chroma cross takes =

@@ -5,7 +5,7 @@ use Rattle.vx_table.specs.declared.writer.SpellError.{SpellError}
 use Rattle.vx_table.specs.Scope.{fresh}
 use Rattle.vx_table.specs.EachField.{sections_pass}
 use Rattle.vx_table.specs.Forms.{form_of, has_value}
-use Rattle.vx_table.specs.Depends.{Agree, has, set_of}
+use Rattle.vx_table.specs.Depends.{Agree, has}
 use Rattle.vx_table.specs.Loaded.{code_below, number, range_below, row_below}
 use Rattle.vx_table.specs.Rewritten.{IsRewritten, other_items}
 use Rattle.vx_table.specs.Rewrites.{Takes}
@@ -35,7 +35,7 @@ use Rattle.vx_ph.proofs.Telling.{kept_has_no_star, not_kept_is_starred}
 
 -- what is stated goes through, under sets with the kept fields of an SPS
 module _ (own_sps own_pps sps pps : List Item) (same : HaveSameKept own_sps own_pps sps pps) where
-  low : (of : ℕ) → sections_pass (row_below of 2) sps_sections ≡ true → IsTrue (has (set_of sps_set.kept_sps_fields) of) → number sps of < 2
+  low : (of : ℕ) → sections_pass (row_below of 2) sps_sections ≡ true → IsTrue (has sps_set.kept_sps_fields of) → number sps of < 2
   low of test is = subst (λ n. n < 2) (ap (λ xs. number xs of) (sym same.is_sps.all) ∙ sps_number own_sps own_pps sps pps same of is) (below of 2 (omega arith) test same.is_sps.follows)
 
   pub shape_takes : (shape : PhShape) → IsShape shape → Takes (form_of LMCS_AND_SCALING (in_force sps pps)) (map_items sps shape)
@@ -48,9 +48,9 @@ module _ (own_sps own_pps sps pps : List Item) (same : HaveSameKept own_sps own_
       rw (← c, ← l, ← k) (maps_take t shape.lmcs shape.scaling (in_force_length sps pps) (rw c (low sps_chroma_format_idc refl refl)) (rw l (low sps_lmcs_enabled_flag refl refl))
       (rw k (low sps_explicit_scaling_list_enabled_flag refl refl)) is.lmcs is.scaling)
 
-kept_agree : (s t : List ℕ) → Agree (set_of kept_for_starred) s t → Agree (set_of kept_of_sets) s t
+kept_agree : (s t : List ℕ) → Agree kept_for_starred s t → Agree kept_of_sets s t
 unfolding fresh
-kept_agree s t agree = agree_fewer kept_of_sets (set_of kept_for_starred) s t refl agree
+kept_agree s t agree = agree_fewer kept_of_sets kept_for_starred s t refl agree
 
 module _ (source : PictureHeader) (shape : PhShape) (sps pps : List Item) (is : IsShape shape) (goes : GoesUnder source sps pps) where
   -- there is one
@@ -63,11 +63,11 @@ module _ (source : PictureHeader) (shape : PhShape) (sps pps : List Item) (is : 
       let filter : slice_index t pps_alf_info_in_ph_flag ≡ 0 = of_pps sps pps pps_alf_info_in_ph_flag (omega arith) (λ e. absurd (omega (arith, e))) ∙ goes.apart.filter in
       let qp : slice_index t pps_qp_delta_info_in_ph_flag ≡ 0 = of_pps sps pps pps_qp_delta_info_in_ph_flag (omega arith) (λ e. absurd (omega (arith, e))) ∙ goes.apart.qp in
       let there = header_rewrites (structures goes.own_sps) s t f.values f.end shape.pps_id (map_items sps shape) (kept_agree s t on.numbers) filter qp f.follows (omega (arith, is.pps_id)) (shape_takes goes.own_sps goes.own_pps sps pps goes.same shape is) in
-      subst (λ table. (items : List Item) × IsRewritten (header_form table t) (set_of kept_ph_fields) (shown_items (set_of kept_ph_fields) source.fields) (stated_ph_items sps shape) items) on.same_structures
-      (subst (λ xs. (items : List Item) × IsRewritten (header_form (structures goes.own_sps) t) (set_of kept_ph_fields) (shown_items (set_of kept_ph_fields) xs) (stated_ph_items sps shape) items) (sym f.all) there)
+      subst (λ table. (items : List Item) × IsRewritten (header_form table t) kept_ph_fields (shown_items kept_ph_fields source.fields) (stated_ph_items sps shape) items) on.same_structures
+      (subst (λ xs. (items : List Item) × IsRewritten (header_form (structures goes.own_sps) t) kept_ph_fields (shown_items kept_ph_fields xs) (stated_ph_items sps shape) items) (sym f.all) there)
 
   -- its items by their stars
-  starred_ones : (items : List Item) → AreReshapedInPictureHeader source.fields shape sps pps items → IsRewritten (header_form (structures sps) (in_force sps pps)) (set_of STARRED) (stated_ph_items sps shape) (other_items (set_of STARRED) source.fields) items
+  starred_ones : (items : List Item) → AreReshapedInPictureHeader source.fields shape sps pps items → IsRewritten (header_form (structures sps) (in_force sps pps)) STARRED (stated_ph_items sps shape) (other_items STARRED source.fields) items
   starred_ones items re =
       let f = goes.header.fields in
       let table = structures sps in
@@ -77,12 +77,12 @@ module _ (source : PictureHeader) (shape : PhShape) (sps pps : List Item) (is : 
         end = re.end;
         follows = re.follows;
         all = re.all;
-        shown_ones = ap (λ xs. shown_items (set_of STARRED) xs) re.all ∙ sym (not_kept_is_starred table t re.follows) ∙ ap (λ xs. other_items (set_of kept_ph_fields) xs) (sym re.all) ∙ re.other_ones;
-        other_ones = ap (λ xs. other_items (set_of STARRED) xs) re.all ∙ sym (kept_has_no_star table t re.follows) ∙ ap (λ xs. shown_items (set_of kept_ph_fields) xs) (sym re.all) ∙ re.shown_ones
-            ∙ ap (λ xs. shown_items (set_of kept_ph_fields) xs) f.all ∙ kept_has_no_star (structures goes.own_sps) (in_force goes.own_sps goes.own_pps) f.follows ∙ ap (λ xs. other_items (set_of STARRED) xs) (sym f.all);
+        shown_ones = ap (λ xs. shown_items STARRED xs) re.all ∙ sym (not_kept_is_starred table t re.follows) ∙ ap (λ xs. other_items kept_ph_fields xs) (sym re.all) ∙ re.other_ones;
+        other_ones = ap (λ xs. other_items STARRED xs) re.all ∙ sym (kept_has_no_star table t re.follows) ∙ ap (λ xs. shown_items kept_ph_fields xs) (sym re.all) ∙ re.shown_ones
+            ∙ ap (λ xs. shown_items kept_ph_fields xs) f.all ∙ kept_has_no_star (structures goes.own_sps) (in_force goes.own_sps goes.own_pps) f.follows ∙ ap (λ xs. other_items STARRED xs) (sym f.all);
       }
 
-  pub reshapes : {others stated_ones : List Item} {scope : List ℕ} (after : List Item) (result : Result (Unit {0}) SpellError) → others ≡ other_items (set_of STARRED) source.fields → stated_ones ≡ stated_ph_items sps shape
+  pub reshapes : {others stated_ones : List Item} {scope : List ℕ} (after : List Item) (result : Result (Unit {0}) SpellError) → others ≡ other_items STARRED source.fields → stated_ones ≡ stated_ph_items sps shape
       → scope ≡ in_force sps pps → Makes (header_form (structures sps) scope) STARRED stated_ones others result after → IsWritten result (AreReshapedInPictureHeader source.fields shape sps pps after)
   reshapes after result kept_are stated_are at make =
       let there = reshaped_is in
@@ -93,7 +93,7 @@ module _ (source : PictureHeader) (shape : PhShape) (sps pps : List Item) (is : 
   unfolding fresh
   lists_are written re header =
       let on = agree_on_kept goes.own_sps goes.own_pps sps pps goes.same in
-      record { fields = re; lists = header.lists ∙ sym (on.lists (set_of kept_ph_fields) source.fields written.fields refl (sym re.shown_ones)) ∙ sym goes.header.lists }
+      record { fields = re; lists = header.lists ∙ sym (on.lists kept_ph_fields source.fields written.fields refl (sym re.shown_ones)) ∙ sym goes.header.lists }
 
 pub are_fields : (source : PictureHeader) (shape : PhShape) (sps pps items : List Item) → AreReshapedInPictureHeader source.fields shape sps pps items → ArePictureHeaderFields (structures sps) (in_force sps pps) items
 are_fields source shape sps pps items re = record { values = re.values; end = re.end; follows = re.follows; all = re.all }

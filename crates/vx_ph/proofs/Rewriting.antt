@@ -14,7 +14,7 @@ use Rattle.vx_table.specs.Parts.{Section, always, provided, sections_form}
 use Rattle.vx_table.specs.EachField.{rows_pass}
 use Rattle.vx_table.specs.Spelling.{HasCode, fault_of, item_of, items_along}
 use Rattle.vx_table.specs.Values.{to_end, through}
-use Rattle.vx_table.specs.Depends.{has, with_all, set_of, Agree, Leaves}
+use Rattle.vx_table.specs.Depends.{has, Agree, Leaves}
 use Rattle.vx_table.specs.Claims.{knows_formula, knows_width, knows_range, knows_presence, hides_counter, hides_row, hides, behind_field, within_block, depends, behind_rows, table_depends, behind_table}
 use Rattle.vx_table.specs.Named.{named_by}
 use Rattle.vx_table.specs.laws.Again.{shows_row}
@@ -41,13 +41,13 @@ use Rattle.vx_ph.proofs.Telling.{given_is_kept, not_given_is_not_kept}
 
 -- what is taken over, with what that depends on; and what the others read
 names : List ℕ
-names = with_all (set_of kept_of_sets) kept_with_names
+names = kept_of_sets ++ kept_with_names
 
 abbrev of_maps : List ℕ
 of_maps = sps_chroma_format_idc ∷ sps_lmcs_enabled_flag ∷ sps_explicit_scaling_list_enabled_flag ∷ []
 
 read : List ℕ
-read = set_of (of_maps ++ starred_of_sets)
+read = (of_maps ++ starred_of_sets)
 
 -- ---- tables that are always there
 
@@ -107,19 +107,19 @@ filter_adds t apart = adds_all filter_if [] (filter_leaves names refl) (filter_l
 
 -- LMCS and scaling lists, as they go at the scope
 maps_names : List ℕ
-maps_names = with_all (set_of of_maps) (named_by LMCS_AND_SCALING)
+maps_names = of_maps ++ named_by LMCS_AND_SCALING
 
-takes_maps : (t u : List ℕ) (maps : List Item) → Takes (form_of LMCS_AND_SCALING t) maps → Agree (set_of of_maps) t u → Takes (once LMCS_AND_SCALING u) maps
+takes_maps : (t u : List ℕ) (maps : List Item) → Takes (form_of LMCS_AND_SCALING t) maps → Agree of_maps t u → Takes (once LMCS_AND_SCALING u) maps
 unfolding maps_names once present value fresh has_value knows_formula knows_width knows_range knows_presence hides_counter hides_row behind_field within_block depends behind_rows table_depends behind_table shows_row
 takes_maps t u maps takes agree =
-    let carries = table_carries maps_names (set_of of_maps) LMCS_AND_SCALING refl in
+    let carries = table_carries maps_names of_maps LMCS_AND_SCALING refl in
     let all = tables_show maps_names LMCS_AND_SCALING refl in
     takes_again maps_names _ (form_of LMCS_AND_SCALING t) (form_of LMCS_AND_SCALING u) maps
-    (carries.alike (inside_with_all (set_of of_maps) (named_by LMCS_AND_SCALING)) t u agree) (all.at t) (all.at u) takes
+    (carries.alike (inside_with_all of_maps (named_by LMCS_AND_SCALING)) t u agree) (all.at t) (all.at u) takes
 
-read_maps : (t u : List ℕ) → Agree read t u → Agree (set_of of_maps) t u
+read_maps : (t u : List ℕ) → Agree read t u → Agree of_maps t u
 unfolding read
-read_maps t u agree = agree_less (inside_with_all (set_of of_maps) starred_of_sets) agree
+read_maps t u agree = agree_less (inside_with_all of_maps starred_of_sets) agree
 
 maps_add : (t : List ℕ) (maps : List Item) → Takes (form_of LMCS_AND_SCALING t) maps → Adds names read t (once LMCS_AND_SCALING) maps
 unfolding fresh hides_counter hides_row names read

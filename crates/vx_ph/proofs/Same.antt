@@ -6,7 +6,7 @@ use Rattle.std.proofs.lemmas.List.Elements.{All-cons, All-nil}
 use Rattle.vx_bits.specs.declared.list.Item.{Item}
 use Rattle.vx_fields.specs.declared.sps.TheConstants as sps_fields
 use Rattle.vx_fields.specs.declared.names.ph.TheConstants.{EXTRA_PH_BITS}
-use Rattle.vx_table.specs.Depends.{Agree, has, set_of}
+use Rattle.vx_table.specs.Depends.{Agree, has}
 use Rattle.vx_table.specs.Loaded.{number}
 use Rattle.vx_table.specs.Scope.{capped, fresh, is_set, natural}
 use Rattle.vx_table.proofs.Loading.{number_of_shown}
@@ -44,10 +44,10 @@ same_flags of items others same = flags_with of items ∙ ap (λ xs. set_flags o
 
 -- kept fields of an SPS, and what is none of one; kept fields of a PPS, and what is none of one
 abbrev pub of_sps : ℕ → Bool
-of_sps n = nat_le 400 n || has (set_of sps_set.kept_sps_fields) n
+of_sps n = nat_le 400 n || has sps_set.kept_sps_fields n
 
 abbrev pub of_pps : ℕ → Bool
-of_pps n = (nat_lt n 400 || nat_le 600 n) || has (set_of kept_pps_fields) n
+of_pps n = (nat_lt n 400 || nat_le 600 n) || has kept_pps_fields n
 
 -- and the one that isn't a field
 abbrev of_headers : ℕ → Bool
@@ -61,11 +61,11 @@ module _ (sps pps other_sps other_pps : List Item) (same : HaveSameKept sps pps 
   same_sps : sps_set.kept_sps_items sps ≡ sps_set.kept_sps_items other_sps
   same_sps = sym same.of_sps
 
-  pub sps_number : (n : ℕ) → IsTrue (has (set_of sps_set.kept_sps_fields) n) → number sps n ≡ number other_sps n
-  sps_number n is = number_of_shown (set_of sps_set.kept_sps_fields) n sps is ∙ ap (λ xs. number xs n) same_sps ∙ sym (number_of_shown (set_of sps_set.kept_sps_fields) n other_sps is)
+  pub sps_number : (n : ℕ) → IsTrue (has sps_set.kept_sps_fields n) → number sps n ≡ number other_sps n
+  sps_number n is = number_of_shown sps_set.kept_sps_fields n sps is ∙ ap (λ xs. number xs n) same_sps ∙ sym (number_of_shown sps_set.kept_sps_fields n other_sps is)
 
   pub sps_numbers : (n : ℕ) → of_sps n ≡ true → n < 400 → number sps n ≡ number other_sps n
-  sps_numbers n pass low = elim (or_cases (nat_le 400 n) (has (set_of sps_set.kept_sps_fields) n) pass) [
+  sps_numbers n pass low = elim (or_cases (nat_le 400 n) (has sps_set.kept_sps_fields n) pass) [
     | inl high ↦ absurd (omega (arith, low, leb-true 400 n high))
     | inr is ↦ sps_number n is
   ]
@@ -74,7 +74,7 @@ module _ (sps pps other_sps other_pps : List Item) (same : HaveSameKept sps pps 
   gives = kept_tells_numbers pps other_pps same.is_pps same.is_other_pps (sym same.of_pps)
 
   pub pps_numbers : (n : ℕ) → of_pps n ≡ true → 400 ≤ n → n < 600 → number pps n ≡ number other_pps n
-  pps_numbers n pass from upto = elim (or_cases (nat_lt n 400 || nat_le 600 n) (has (set_of kept_pps_fields) n) pass) [
+  pps_numbers n pass from upto = elim (or_cases (nat_lt n 400 || nat_le 600 n) (has kept_pps_fields n) pass) [
     | inl out ↦ elim (or_cases (nat_lt n 400) (nat_le 600 n) out) [
       | inl low ↦ absurd (omega (arith, from, ltb-true n 400 low))
       | inr high ↦ absurd (omega (arith, upto, leb-true 600 n high))
@@ -87,11 +87,11 @@ module _ (sps pps other_sps other_pps : List Item) (same : HaveSameKept sps pps 
 
   extra_ph : extra_ph_bits_of sps ≡ extra_ph_bits_of other_sps
   unfolding fresh
-  extra_ph = same_flags sps_fields.sps_extra_ph_bit_present_flag sps other_sps (same_with (set_of sps_set.kept_sps_fields) sps_fields.sps_extra_ph_bit_present_flag sps other_sps refl same_sps)
+  extra_ph = same_flags sps_fields.sps_extra_ph_bit_present_flag sps other_sps (same_with sps_set.kept_sps_fields sps_fields.sps_extra_ph_bit_present_flag sps other_sps refl same_sps)
 
   pub extra_sh : extra_sh_bits_of sps ≡ extra_sh_bits_of other_sps
   unfolding fresh
-  extra_sh = same_flags sps_fields.sps_extra_sh_bit_present_flag sps other_sps (same_with (set_of sps_set.kept_sps_fields) sps_fields.sps_extra_sh_bit_present_flag sps other_sps refl same_sps)
+  extra_sh = same_flags sps_fields.sps_extra_sh_bit_present_flag sps other_sps (same_with sps_set.kept_sps_fields sps_fields.sps_extra_sh_bit_present_flag sps other_sps refl same_sps)
 
   weighted : is_weighted sps ≡ is_weighted other_sps
   unfolding fresh
@@ -102,9 +102,9 @@ module _ (sps pps other_sps other_pps : List Item) (same : HaveSameKept sps pps 
 
   same_tables : structures sps ≡ structures other_sps
   unfolding fresh
-  same_tables = ap (λ b. table_of b sps) weighted ∙ tables_follow_items (is_weighted other_sps) (set_of sps_set.kept_sps_fields) sps other_sps refl refl same_sps
+  same_tables = ap (λ b. table_of b sps) weighted ∙ tables_follow_items (is_weighted other_sps) sps_set.kept_sps_fields sps other_sps refl refl same_sps
 
-  numbers_agree : Agree (set_of kept_for_starred) (in_force sps pps) (in_force other_sps other_pps)
+  numbers_agree : Agree kept_for_starred (in_force sps pps) (in_force other_sps other_pps)
   numbers_agree = sets_agree kept_for_starred sps other_sps pps other_pps
       (all_pass of_sps (λ n. n < 400 → number sps n ≡ number other_sps n) sps_numbers kept_for_starred all_are.0)
       (all_pass of_headers (λ n. 400 ≤ n → n ≢ EXTRA_PH_BITS → number pps n ≡ number other_pps n)
@@ -120,7 +120,7 @@ module _ (sps pps other_sps other_pps : List Item) (same : HaveSameKept sps pps 
     same_structures = same_tables;
     numbers = numbers_agree;
     lists = λ names items others run alike.
-        lists_follow_items (structures sps) (set_of kept_for_starred) (in_force sps pps) (in_force other_sps other_pps) names items others numbers_agree refl refl refl refl run alike
+        lists_follow_items (structures sps) kept_for_starred (in_force sps pps) (in_force other_sps other_pps) names items others numbers_agree refl refl refl refl run alike
         ∙ ap (λ t. lists_of t (in_force other_sps other_pps) others) same_tables;
   }
 

@@ -5,7 +5,7 @@ use Rattle.std.proofs.lemmas.Grind.{get_or-set_at}
 use Rattle.std.proofs.lemmas.List.{get_or_append_left, get_or-append_right, get_or-take, get_or-drop, get_or-set_other, length-append, length-take, length-drop, length-set, length-replicate}
 use Rattle.vx_bits.specs.declared.list.Item.{Item}
 use Rattle.vx_table.specs.Scope.{natural, fresh, loaded, joined}
-use Rattle.vx_table.specs.Depends.{has, set_of}
+use Rattle.vx_table.specs.Depends.{has}
 use Rattle.vx_table.specs.Loaded.{number}
 use Rattle.vx_table.proofs.Groups.{inside_nothing}
 use Rattle.vx_fields.specs.declared.pps.TheConstants.{pps_pic_parameter_set_id}
@@ -13,13 +13,6 @@ use Rattle.vx_fields.specs.declared.names.ph.TheConstants.{EXTRA_PH_BITS}
 use Rattle.vx_sps.specs.Set.{extra_ph_bits_of}
 use Rattle.vx_pps.proofs.Fields.{named}
 use Rattle.vx_ph.specs.InForce.{both_sets, in_force, SetsAgree}
-
--- a fresh scope has no name
-pub no_name : (n : ℕ) → has (set_of []) n ≡ false
-no_name n = elim (cases_Bool (has (set_of []) n)) [
-  | inl is ↦ absurd (both_ways _ refl ((inside_nothing []).has_too n is))
-  | inr is_not ↦ is_not
-]
 
 -- ---- two scopes joined
 

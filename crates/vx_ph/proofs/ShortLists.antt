@@ -9,7 +9,7 @@ use Rattle.vx_table.specs.declared.rows.Cell.{Cell}
 use Rattle.vx_table.specs.declared.rows.Row.{Row}
 use Rattle.vx_table.specs.declared.rows.Row.TheVariants.{Block, Field, Name}
 use Rattle.vx_table.specs.Claims.{hides_counter, hides_row}
-use Rattle.vx_table.specs.Depends.{set_of, IsLeft}
+use Rattle.vx_table.specs.Depends.{IsLeft}
 use Rattle.vx_table.specs.EachField.{rows_pass}
 use Rattle.vx_table.specs.Forms.{Form, ◌>>=◌, form_of, has_value, present, turns}
 use Rattle.vx_table.specs.Parts.{always, sections_form}
@@ -73,7 +73,7 @@ block_first n m holds k rows fits inside more = record {
 -- ---- the entries of a structure, of which some are long-term
 
 abbrev only_long : List ℕ
-only_long = set_of (names.LONG_ENTRIES ∷ [])
+only_long = names.LONG_ENTRIES ∷ []
 
 -- so many at most were counted
 record CountsLong (k : ℕ) (s : List ℕ) : Type 0 where

@@ -1,5 +1,5 @@
 -- Items of a header whose fields two tests tell alike.
-use Rattle.std.proofs.Common.{◌≡◌, ℕ, ℤ, Bool, true, false, cond, not, ◌||◌, List, [], ◌∷◌, ◌++◌, refl, sym, ◌∙◌, inl, inr}
+use Rattle.std.proofs.Common.{◌≡◌, ℕ, ℤ, Bool, true, cond, not, ◌||◌, List, ◌++◌, refl, sym, ◌∙◌, inl, inr}
 use Rattle.std.specs.Prelude.{filter}
 use Rattle.std.proofs.lemmas.Bool.{cases_Bool, not-true}
 use Rattle.vx_bits.specs.declared.list.Item.{Item}
@@ -10,7 +10,7 @@ use Rattle.vx_table.specs.declared.rows.Row.TheVariants.{Field, Block, Name}
 use Rattle.vx_table.specs.EachField.{EachField}
 use Rattle.vx_table.specs.Forms.{Form, has_value, cell_at}
 use Rattle.vx_table.specs.Scope.{fresh}
-use Rattle.vx_table.specs.Depends.{has, with_all, set_of}
+use Rattle.vx_table.specs.Depends.{has}
 use Rattle.vx_table.specs.Spelling.{item_of, items_along}
 use Rattle.vx_table.specs.Values.{Follows, to_end, through}
 use Rattle.vx_table.proofs.Agreeing.{valued}
@@ -61,13 +61,13 @@ header_alike p q pass table s on = alike_items p q (header_each (Alike p q) (tel
 -- ---- sets of a header's fields
 
 abbrev in_kept : ℕ → Bool
-in_kept n = has (set_of kept_ph_fields) n
+in_kept n = has kept_ph_fields n
 
 abbrev in_given : ℕ → Bool
-in_given n = has (with_all (set_of kept_of_sets) kept_with_names) n
+in_given n = has (kept_of_sets ++ kept_with_names) n
 
 abbrev in_starred : ℕ → Bool
-in_starred n = has (set_of STARRED) n
+in_starred n = has STARRED n
 
 module _ (table : RplTable) (s : List ℕ) {w : List ℤ} {a : List ℕ} (on : Follows (header_form table s) w a) where
   -- what kept fields depend on has none of them besides

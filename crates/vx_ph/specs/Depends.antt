@@ -9,7 +9,7 @@ use Rattle.vx_table.specs.Unstarred.{unstarred}
 use Rattle.vx_table.specs.Spelling.{items_along}
 use Rattle.vx_table.specs.Values.{Follows}
 use Rattle.vx_table.specs.Reading.{Reads}
-use Rattle.vx_table.specs.Depends.{has, with_all, set_of, Agree, DependsOnlyOn}
+use Rattle.vx_table.specs.Depends.{has, Agree, DependsOnlyOn}
 use Rattle.vx_table.specs.Named.{named_by_all, CodedOnce}
 use Rattle.vx_table.specs.Shown.{shown_items, KeepsOnly}
 use Rattle.vx_table.specs.laws.Again.{AlwaysShown}
@@ -50,7 +50,7 @@ starred = FILTER_SET ∷ STARRED
 
 -- the others: the kept fields, with the names that their rows use
 abbrev pub kept_with_names : List ℕ
-kept_with_names = filter (λ n. not (has (set_of starred) n)) of_header
+kept_with_names = filter (λ n. not (has starred n)) of_header
 
 -- ---- what they depend on
 
@@ -92,7 +92,7 @@ abbrev pub KeepsKept : Type 0
 KeepsKept = (table : RplTable) → KeepsOnly kept_of_sets kept_ph_fields (header_form table)
 
 abbrev pub ShowsAll : Type 0
-ShowsAll = (table : RplTable) → AlwaysShown (with_all (set_of all_of_sets) of_header) (header_form table)
+ShowsAll = (table : RplTable) → AlwaysShown (all_of_sets ++ of_header) (header_form table)
 
 -- No field is coded by two rows.
 abbrev pub FieldsAreCodedOnce : Type 0
@@ -104,7 +104,7 @@ FieldsAreCodedOnce = CodedOnce
 -- The same bits, under sets that agree on all these, are the same header or the same refusal.
 abbrev pub HeaderReadAgain : Type 0
 HeaderReadAgain = (table : RplTable) (s t : List ℕ) (old new : Place) (items after : List Item) (result : Result (Unit {0}) ReadError)
-    → Agree (set_of all_of_sets) s t → Reads (header_form table s) old items result new after
+    → Agree all_of_sets s t → Reads (header_form table s) old items result new after
     → Reads (header_form table t) old items result new after
 
 -- ---- rewritten
@@ -113,8 +113,8 @@ HeaderReadAgain = (table : RplTable) (s t : List ℕ) (old new : Place) (items a
 -- its kept fields, another id of the PPS, and other LMCS and scaling lists that go through there.
 abbrev pub HeaderRewrites : Type 0
 HeaderRewrites = (table : RplTable) (s t : List ℕ) (values : List ℤ) (end : List ℕ) (id : ℕ) (maps : List Item)
-    → Agree (set_of kept_of_sets) s t → slice_index t pps.pps_alf_info_in_ph_flag ≡ 0 → slice_index t pps.pps_qp_delta_info_in_ph_flag ≡ 0
+    → Agree kept_of_sets s t → slice_index t pps.pps_alf_info_in_ph_flag ≡ 0 → slice_index t pps.pps_qp_delta_info_in_ph_flag ≡ 0
     → Follows (header_form table s) values end → id ≤ 63 → Takes (form_of LMCS_AND_SCALING t) maps
     → (items : List Item)
-    × IsRewritten (header_form table t) (set_of kept_ph_fields) (shown_items (set_of kept_ph_fields) (items_along (header_form table s) values))
+    × IsRewritten (header_form table t) kept_ph_fields (shown_items kept_ph_fields (items_along (header_form table s) values))
     (record { field = ph.ph_pic_parameter_set_id; value = pos id } ∷ maps) items

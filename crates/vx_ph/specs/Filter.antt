@@ -1,7 +1,7 @@
 -- The adaptive loop filter of a header, with other ids of its sets (H.266 7.3.7). Our own, but for what the fields name.
 use Rattle.std.specs.Prelude.{◌≡◌, ◌≤◌, ◌==◌, ℕ, pos, ◌<◌, cond, filter, true, List, [], ◌∷◌, length, map, slice_index}
 use Rattle.vx_bits.specs.declared.list.Item.{Item}
-use Rattle.vx_table.specs.Depends.{has, set_of}
+use Rattle.vx_table.specs.Depends.{has}
 use Rattle.vx_table.specs.Forms.{form_of}
 use Rattle.vx_table.specs.Rewrites.{Takes}
 use Rattle.vx_table.specs.Scope.{is_set, natural}
@@ -19,12 +19,12 @@ set_ids = alf.alf_aps_id_luma ∷ alf.alf_aps_id_chroma ∷ alf.alf_cc_cb_aps_id
 
 -- the filter's items, of those of a header (our own)
 abbrev pub filter_of : List Item → List Item
-filter_of items = shown_items (set_of alf.ALL) items
+filter_of items = shown_items alf.ALL items
 
 -- with another id in place of each (our own)
 abbrev pub with_ids : (ℕ → ℕ) → List Item → List Item
 with_ids ids items = map
-    (λ item. cond (has (set_of set_ids) item.field) (record { field = item.field; value = pos (ids (natural item.value)) }) item) items
+    (λ item. cond (has set_ids item.field) (record { field = item.field; value = pos (ids (natural item.value)) }) item) items
 
 -- A filter goes through with other ids, under sets with the same chroma and the same cross-component filter.
 abbrev pub FilterGoesAgain : Type 0

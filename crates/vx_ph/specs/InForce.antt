@@ -2,7 +2,7 @@
 use Rattle.std.specs.Prelude.{◌≡◌, ◌≢◌, ◌≤◌, ◌<◌, ℕ, List, All, slice_set}
 use Rattle.vx_bits.specs.declared.list.Item.{Item}
 use Rattle.vx_table.specs.Scope.{fresh, loaded, joined}
-use Rattle.vx_table.specs.Depends.{set_of, Agree}
+use Rattle.vx_table.specs.Depends.{Agree}
 use Rattle.vx_table.specs.Loaded.{number}
 use Rattle.vx_fields.specs.declared.pps.TheConstants.{pps_pic_parameter_set_id}
 use Rattle.vx_fields.specs.declared.names.ph.TheConstants.{EXTRA_PH_BITS}
@@ -29,4 +29,4 @@ SetsAgree = (fields : List ℕ) (sps other_sps pps other_pps : List Item)
     → All (λ n. n < pps_pic_parameter_set_id → number sps n ≡ number other_sps n) fields
     → All (λ n. pps_pic_parameter_set_id ≤ n → n ≢ EXTRA_PH_BITS → number pps n ≡ number other_pps n) fields
     → extra_ph_bits_of sps ≡ extra_ph_bits_of other_sps
-    → Agree (set_of fields) (in_force sps pps) (in_force other_sps other_pps)
+    → Agree fields (in_force sps pps) (in_force other_sps other_pps)

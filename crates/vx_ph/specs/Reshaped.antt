@@ -2,7 +2,7 @@
 use Rattle.std.specs.Prelude.{◌≡◌, ℕ, ◌<◌, true, List, [], ◌∷◌, ◌++◌, Option, Some, None, IfSome}
 use Rattle.vx_bits.specs.declared.list.Item.{Item}
 use Rattle.vx_table.specs.Scope.{is_set, one_if}
-use Rattle.vx_table.specs.Depends.{set_of, Agree}
+use Rattle.vx_table.specs.Depends.{Agree}
 use Rattle.vx_table.specs.Loaded.{number}
 use Rattle.vx_table.specs.Rewritten.{IsRewritten}
 use Rattle.vx_table.specs.Shown.{shown_items}
@@ -83,8 +83,8 @@ pub record GoesUnder (source : PictureHeader) (sps pps : List Item) : Type 0 whe
 
 -- The items are those of a header under the sets. Those of kept fields are the source's, and the others are exactly what is stated.
 abbrev pub AreReshapedInPictureHeader : List Item → PhShape → List Item → List Item → List Item → Type 0
-AreReshapedInPictureHeader source shape sps pps items = IsRewritten (header_form (structures sps) (in_force sps pps)) (set_of kept_ph_fields)
-    (shown_items (set_of kept_ph_fields) source) (stated_ph_items sps shape) items
+AreReshapedInPictureHeader source shape sps pps items = IsRewritten (header_form (structures sps) (in_force sps pps)) kept_ph_fields
+    (shown_items kept_ph_fields source) (stated_ph_items sps shape) items
 
 -- And its reference picture lists are the source's.
 pub record IsReshapedPictureHeader (source : PictureHeader) (shape : PhShape) (sps pps : List Item) (written : PictureHeader) : Type 0 where
@@ -97,7 +97,7 @@ pub record IsReshapedPictureHeader (source : PictureHeader) (shape : PhShape) (s
 -- the same items of a header's lists come to.
 pub record AgreeOnKept (sps pps other_sps other_pps : List Item) : Type 0 where
   pub same_structures : structures sps ≡ structures other_sps
-  pub numbers : Agree (set_of kept_for_starred) (in_force sps pps) (in_force other_sps other_pps)
+  pub numbers : Agree kept_for_starred (in_force sps pps) (in_force other_sps other_pps)
   pub lists : (names : List ℕ) (items others : List Item) → has_run names num_ref_entries 11 ≡ true
       → shown_items names items ≡ shown_items names others
       → lists_of (structures sps) (in_force sps pps) items ≡ lists_of (structures other_sps) (in_force other_sps other_pps) others

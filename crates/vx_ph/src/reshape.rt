@@ -25,7 +25,7 @@ use vx_pps::Pps;
 use vx_rpl::{RplTable, resolve_lists};
 use vx_sps::Sps;
 use vx_table::{
-    Rewriter, Scope, SpellError, Unwritten, item, only_memory, others_of, push_where, set_of,
+    Rewriter, Scope, SpellError, Unwritten, item, only_memory, others_of, push_where,
 };
 
 /// Luma mapping with chroma scaling.
@@ -95,7 +95,7 @@ fn put_together(
     ensures { Makes (header_form table.now scope) tables.STARRED stated.now kept.now result into.new }
 {
     let mut rewriter = Rewriter::new(
-        set_of(&STARRED),
+        &STARRED,
         Unwritten::new(stated, 0, stated.len()),
         Unwritten::new(kept, 0, kept.len()),
     );
@@ -114,7 +114,7 @@ fn reshaped_items(
     requires source { GoesUnder source.now sps.now pps.now }
     ensures { IfOk result (λ items. AreReshapedInPictureHeader source.now.fields shape.now sps.now pps.now items) }
 {
-    let kept = others_of(alloc, &source.fields, &set_of(&STARRED))?;
+    let kept = others_of(alloc, &source.fields, &STARRED)?;
     let stated = stated_items(alloc, sps, shape)?;
     let mut items = Fields::new(alloc);
     match put_together(&stated, &kept, sps.table(), in_force(sps, pps), &mut items) {

@@ -14,7 +14,7 @@ use Rattle.vx_fields.specs.declared.sps.TheConstants as sps
 use Rattle.vx_table.specs.declared.rows.Fault.{Fault}
 use Rattle.vx_table.specs.declared.rows.Limits.TheVariants.{Multiple}
 use Rattle.vx_table.specs.Claims.{hides_counter, hides_row}
-use Rattle.vx_table.specs.Depends.{Agree, set_of}
+use Rattle.vx_table.specs.Depends.{Agree}
 use Rattle.vx_table.specs.Forms.{has_value, form_of, part, one_field, after, coding_at, limits_at}
 use Rattle.vx_table.specs.Loaded.{number, code_below, range_below, row_below, names_none}
 use Rattle.vx_table.specs.Parts.{Section, always, sections_form}
@@ -70,7 +70,7 @@ multiple_whole (negsuc n) fault range = refl
 
 -- the fields of the size
 abbrev sides : List ℕ
-sides = set_of (sps.sps_pic_width_max_in_luma_samples ∷ sps.sps_pic_height_max_in_luma_samples ∷ [])
+sides = sps.sps_pic_width_max_in_luma_samples ∷ sps.sps_pic_height_max_in_luma_samples ∷ []
 
 record HasSize (s : List ℕ) : Type 0 where
   wide : 0 < slice_index s sps.sps_pic_width_max_in_luma_samples

@@ -8,7 +8,6 @@ use Rattle.vx_bits.specs.declared.list.Item.{Item}
 use Rattle.vx_bits.specs.Fields.{first_value}
 use Rattle.vx_table.specs.Scope.{natural, is_set}
 use Rattle.vx_table.specs.Loaded.{number}
-use Rattle.vx_table.specs.Depends.{set_of}
 use Rattle.vx_table.specs.Shown.{shown_items}
 use Rattle.vx_fields.specs.declared.pps.TheConstants as pps
 use Rattle.vx_fields.specs.declared.ph.TheConstants as ph
@@ -40,10 +39,10 @@ abbrev pub pps_fields : List Item → List Item
 pps_fields items = pps_kept.kept_pps_items items
 
 abbrev pub header_fields : List Item → List Item
-header_fields items = shown_items (set_of header_kept.kept_ph_fields) items
+header_fields items = shown_items header_kept.kept_ph_fields items
 
 abbrev pub kept_slice_items : List Item → List Item
-kept_slice_items items = shown_items (set_of slice_kept.kept_fields) items
+kept_slice_items items = shown_items slice_kept.kept_fields items
 
 -- ---- adaptation parameter sets in force, by their bodies (7.4.3.6)
 

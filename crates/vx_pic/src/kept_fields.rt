@@ -1,111 +1,126 @@
 //! The kept fields of sets and headers.
-ghost use Rattle.std.specs.Prelude.{◌≡◌, IfOk};
-ghost use Rattle.vx_table.specs.Depends.{with_all, set_of};
+ghost use Rattle.std.specs.Prelude.{◌≡◌, ◌++◌, OnOk, IfOk};
 ghost use Rattle.vx_table.specs.Shown.{shown_items};
 ghost use Rattle.vx_table.specs.Unstarred.{unstarred};
 ghost use Rattle.vx_rpl.specs.Lists.{weights};
 ghost use Rattle.vx_pic.specs.Inputs as inputs;
 ghost use Rattle.vx_ph.specs.Header.{ph_before_lists};
 ghost use Rattle.vx_ph.specs.Depends as header;
-ghost use Rattle.vx_sh.specs.Slice.{before_lists};
+ghost use Rattle.vx_sh.specs.Slice.{before_lists, behind_weights};
 ghost use Rattle.vx_sh.specs.Depends as slice;
 
 use std::alloc::{AllocError, Global};
 use vx_bits::{Fields, Kept};
 use vx_pps::{Pps, keep_pps};
 use vx_sps::{Sps, keep_sps};
-use vx_table::{Scope, mark_unstarred};
+use vx_table::{NameList, push_unstarred};
 
-/// Marks the fields without a star of reference picture lists.
-fn mark_lists(kept: &mut Scope)
-    ensures { kept.new ≡ with_all kept.old (unstarred header.lists_tables) }
+/// Appends the fields without a star of reference picture lists.
+fn push_lists(kept: &mut NameList) -> Result<(), AllocError>
+    ensures { OnOk result (kept.new ≡ kept.old ++ unstarred header.lists_tables) }
 {
-    mark_unstarred(kept, &vx_rpl::BEFORE_LIST_0);
-    mark_unstarred(kept, &vx_rpl::CHOICE);
-    mark_unstarred(kept, &vx_rpl::REF_PIC_LIST_STRUCT);
-    mark_unstarred(kept, &vx_rpl::LONG_TERM);
-    mark_unstarred(kept, &vx_rpl::BEHIND_LIST_0);
-    mark_unstarred(kept, &vx_rpl::BEHIND_LIST_1);
+    push_unstarred(kept, &vx_rpl::BEFORE_LIST_0)?;
+    push_unstarred(kept, &vx_rpl::CHOICE)?;
+    push_unstarred(kept, &vx_rpl::REF_PIC_LIST_STRUCT)?;
+    push_unstarred(kept, &vx_rpl::LONG_TERM)?;
+    push_unstarred(kept, &vx_rpl::BEHIND_LIST_0)?;
+    push_unstarred(kept, &vx_rpl::BEHIND_LIST_1)?;
+    Ok(())
 }
 
-/// Marks those of prediction weights.
-fn mark_weights(kept: &mut Scope)
-    ensures { kept.new ≡ with_all kept.old (unstarred weights) }
+/// Appends those of prediction weights.
+fn push_weights(kept: &mut NameList) -> Result<(), AllocError>
+    ensures { OnOk result (kept.new ≡ kept.old ++ unstarred weights) }
 {
-    mark_unstarred(kept, &vx_rpl::WEIGHTS_0);
-    mark_unstarred(kept, &vx_rpl::WEIGHTS);
-    mark_unstarred(kept, &vx_rpl::WEIGHTS_1);
-    mark_unstarred(kept, &vx_rpl::WEIGHTS);
+    push_unstarred(kept, &vx_rpl::WEIGHTS_0)?;
+    push_unstarred(kept, &vx_rpl::WEIGHTS)?;
+    push_unstarred(kept, &vx_rpl::WEIGHTS_1)?;
+    push_unstarred(kept, &vx_rpl::WEIGHTS)?;
+    Ok(())
 }
 
-/// Marks those of a picture header before its lists.
-fn mark_header_front(kept: &mut Scope)
-    ensures { kept.new ≡ with_all kept.old (unstarred ph_before_lists) }
+/// Appends those of a picture header before its lists.
+fn push_header_front(kept: &mut NameList) -> Result<(), AllocError>
+    ensures { OnOk result (kept.new ≡ kept.old ++ unstarred ph_before_lists) }
 {
-    mark_unstarred(kept, &vx_ph::PICTURE);
-    mark_unstarred(kept, &vx_ph::PPS_ID);
-    mark_unstarred(kept, &vx_ph::ORDER_COUNT);
-    mark_unstarred(kept, &vx_ph::ALF);
-    mark_unstarred(kept, &vx_ph::LMCS_AND_SCALING);
-    mark_unstarred(kept, &vx_ph::OUTPUT);
+    push_unstarred(kept, &vx_ph::PICTURE)?;
+    push_unstarred(kept, &vx_ph::PPS_ID)?;
+    push_unstarred(kept, &vx_ph::ORDER_COUNT)?;
+    push_unstarred(kept, &vx_ph::ALF)?;
+    push_unstarred(kept, &vx_ph::LMCS_AND_SCALING)?;
+    push_unstarred(kept, &vx_ph::OUTPUT)?;
+    Ok(())
 }
 
-/// The kept fields of a picture header: those without a star, which a header that is rewritten has as its source. Marking them costs more
-/// than [`kept_among`]: to be done once where several headers are told by what they keep.
-pub fn header_fields() -> Scope
-    ensures { result ≡ set_of header.kept_ph_fields }
+/// The kept fields of a picture header: those without a star, which a header that is rewritten has as its source. To gather them costs
+/// more than [`kept_among`]: to be done once where several headers are told by what they keep.
+///
+/// # Errors
+///
+/// Where memory runs out.
+pub fn header_fields(alloc: Global) -> Result<NameList, AllocError>
+    ensures { IfOk result (λ fields. fields ≡ header.kept_ph_fields) }
 {
-    let mut kept = Scope::new();
-    mark_header_front(&mut kept);
-    mark_lists(&mut kept);
-    mark_unstarred(&mut kept, &vx_ph::INTRA);
-    mark_unstarred(&mut kept, &vx_ph::INTER);
-    mark_weights(&mut kept);
-    mark_unstarred(&mut kept, &vx_ph::QP);
-    mark_unstarred(&mut kept, &vx_ph::FILTERS);
-    kept
+    let mut kept = NameList::new(alloc);
+    push_header_front(&mut kept)?;
+    push_lists(&mut kept)?;
+    push_unstarred(&mut kept, &vx_ph::INTRA)?;
+    push_unstarred(&mut kept, &vx_ph::INTER)?;
+    push_weights(&mut kept)?;
+    push_unstarred(&mut kept, &vx_ph::QP)?;
+    push_unstarred(&mut kept, &vx_ph::FILTERS)?;
+    Ok(kept)
 }
 
-/// Marks the fields without a star of a slice header between its address and its lists.
-fn mark_slice_front(kept: &mut Scope)
-    ensures { kept.new ≡ with_all kept.old (unstarred before_lists) }
+/// Appends the fields without a star of a slice header between its address and its lists.
+fn push_slice_front(kept: &mut NameList) -> Result<(), AllocError>
+    ensures { OnOk result (kept.new ≡ kept.old ++ unstarred before_lists) }
 {
-    mark_unstarred(kept, &vx_sh::TYPE);
-    mark_unstarred(kept, &vx_sh::FILTER_HERE);
-    mark_unstarred(kept, &vx_ph::ALF);
-    mark_unstarred(kept, &vx_sh::LMCS_AND_SCALING);
-    mark_unstarred(kept, &vx_sh::LISTS_HERE);
+    push_unstarred(kept, &vx_sh::TYPE)?;
+    push_unstarred(kept, &vx_sh::FILTER_HERE)?;
+    push_unstarred(kept, &vx_ph::ALF)?;
+    push_unstarred(kept, &vx_sh::LMCS_AND_SCALING)?;
+    push_unstarred(kept, &vx_sh::LISTS_HERE)?;
+    Ok(())
+}
+
+/// Appends those behind its weights.
+fn push_slice_back(kept: &mut NameList) -> Result<(), AllocError>
+    ensures { OnOk result (kept.new ≡ kept.old ++ unstarred behind_weights) }
+{
+    push_unstarred(kept, &vx_sh::QP)?;
+    push_unstarred(kept, &vx_sh::CHROMA_QP_AND_FILTERS)?;
+    push_unstarred(kept, &vx_sh::END)?;
+    push_unstarred(kept, &vx_sh::ALIGNMENT)?;
+    Ok(())
 }
 
 /// The kept fields of a slice header.
-fn slice_fields() -> Scope
-    ensures { result ≡ set_of slice.kept_fields }
+fn slice_fields(alloc: Global) -> Result<NameList, AllocError>
+    ensures { IfOk result (λ fields. fields ≡ slice.kept_fields) }
 {
-    let mut kept = Scope::new();
-    mark_unstarred(&mut kept, &vx_sh::HEADER_INSIDE);
-    mark_unstarred(&mut kept, &vx_sh::SUBPIC_ID);
-    mark_unstarred(&mut kept, &vx_sh::KNOWN_SUBPIC);
-    mark_unstarred(&mut kept, &vx_sh::ADDRESS);
-    mark_slice_front(&mut kept);
-    mark_lists(&mut kept);
-    mark_unstarred(&mut kept, &vx_sh::ACTIVE);
-    mark_unstarred(&mut kept, &vx_sh::INTER);
-    mark_weights(&mut kept);
-    mark_unstarred(&mut kept, &vx_sh::QP);
-    mark_unstarred(&mut kept, &vx_sh::CHROMA_QP_AND_FILTERS);
-    mark_unstarred(&mut kept, &vx_sh::END);
-    mark_unstarred(&mut kept, &vx_sh::ALIGNMENT);
-    kept
+    let mut kept = NameList::new(alloc);
+    push_unstarred(&mut kept, &vx_sh::HEADER_INSIDE)?;
+    push_unstarred(&mut kept, &vx_sh::SUBPIC_ID)?;
+    push_unstarred(&mut kept, &vx_sh::KNOWN_SUBPIC)?;
+    push_unstarred(&mut kept, &vx_sh::ADDRESS)?;
+    push_slice_front(&mut kept)?;
+    push_lists(&mut kept)?;
+    push_unstarred(&mut kept, &vx_sh::ACTIVE)?;
+    push_unstarred(&mut kept, &vx_sh::INTER)?;
+    push_weights(&mut kept)?;
+    push_slice_back(&mut kept)?;
+    Ok(kept)
 }
 
 /// The items of these fields, in order.
-pub fn kept_among(alloc: Global, items: &Fields, fields: &Scope) -> Result<Kept, AllocError>
+pub fn kept_among(alloc: Global, items: &Fields, fields: &[u16]) -> Result<Kept, AllocError>
     ensures { IfOk result (λ kept. kept ≡ shown_items fields.now items.now) }
 {
     let mut kept = Kept::new(alloc);
     for i in 0..items.len() {
         let item = items.item(i);
-        if fields.latest(item.field) != 0 {
+        if fields.contains(&item.field) {
             kept.push(item)?;
         }
     }
@@ -141,12 +156,14 @@ pub(crate) fn kept_of_pps(alloc: Global, pps: &Pps) -> Result<Kept, AllocError>
 pub fn kept_of_header(alloc: Global, items: &Fields) -> Result<Kept, AllocError>
     ensures { IfOk result (λ kept. kept ≡ inputs.header_fields items.now) }
 {
-    kept_among(alloc, items, &header_fields())
+    let fields = header_fields(alloc)?;
+    kept_among(alloc, items, fields.as_slice())
 }
 
 /// The kept fields of a slice header.
 pub(crate) fn kept_of_slice(alloc: Global, items: &Fields) -> Result<Kept, AllocError>
     ensures { IfOk result (λ kept. kept ≡ inputs.kept_slice_items items.now) }
 {
-    kept_among(alloc, items, &slice_fields())
+    let fields = slice_fields(alloc)?;
+    kept_among(alloc, items, fields.as_slice())
 }

@@ -1,8 +1,8 @@
 -- A picture parameter set cut in its front, its tiles and slices, and its tools; and the numbers that its items give its fields.
-use Rattle.std.proofs.Common.{◌≡◌, ◌≢◌, ℕ, ℤ, ◌<◌, ◌≤◌, ltb, ◌&&◌, ◌||◌, Bool, true, false, IsTrue, IsFalse, List, [], ◌∷◌, ◌++◌, slice_index, slice_set, sym, ap, ◌∙◌, subst, inl, inr, arith, refl}
+use Rattle.std.proofs.Common.{◌≡◌, ◌≢◌, ℕ, ℤ, ◌<◌, ◌≤◌, ltb, ◌&&◌, ◌||◌, Bool, true, false, IsTrue, IsFalse, List, [], ◌∷◌, ◌++◌, slice_index, sym, ap, ◌∙◌, subst, inl, inr, arith, refl}
 use Rattle.std.specs.Prelude.{filter}
 use Rattle.std.proofs.lemmas.Bool.{and_parts, both_ways, cases_Bool, cases_eq, false_from_ne_true, ltb-true, not-true, or_cases}
-use Rattle.std.proofs.lemmas.List.{append-nil, get_or-set_other}
+use Rattle.std.proofs.lemmas.List.{append-nil}
 use Rattle.std.proofs.lemmas.List.Elements.{filter-append}
 use Rattle.vx_bits.specs.declared.list.Item.{Item}
 use Rattle.vx_fields.specs.declared.pps.TheConstants as pps
@@ -16,14 +16,14 @@ use Rattle.vx_table.specs.declared.rows.Formula.{Formula}
 use Rattle.vx_table.specs.declared.rows.Row.{Row}
 use Rattle.vx_table.specs.declared.rows.Row.TheVariants.{Field}
 use Rattle.vx_table.specs.Claims.{hides_row}
-use Rattle.vx_table.specs.Depends.{Agree, has, set_of, with_all}
+use Rattle.vx_table.specs.Depends.{Agree, has}
 use Rattle.vx_table.specs.Loaded.{StaysBelow, number, row_below}
 use Rattle.vx_table.specs.Rewritten.{other_items}
-use Rattle.vx_table.specs.Scope.{fresh, is_set, loaded, value}
+use Rattle.vx_table.specs.Scope.{fresh, loaded, value}
 use Rattle.vx_table.specs.Shown.{shown_items}
-use Rattle.vx_table.proofs.Agreeing.{agree_back, agree_itself, agree_on}
+use Rattle.vx_table.proofs.Agreeing.{agree_back, agree_itself, agree_on, others_too}
 use Rattle.vx_table.proofs.EachField.{each_of_sections, each_then}
-use Rattle.vx_table.proofs.Groups.{cut, inside_nothing}
+use Rattle.vx_table.proofs.Groups.{cut}
 use Rattle.vx_table.proofs.Joined.{items_joined, parted}
 use Rattle.vx_table.proofs.Loading.{loaded_then, number_below, number_of_shown, sections_load, sections_stay_below}
 use Rattle.vx_table.proofs.Rewriting.{no_other_here, other_here}
@@ -142,48 +142,45 @@ pub unloaded : (names s : List ℕ) (items : List Item) → shown_items names it
 unloaded names s items none = agree_back (scopes_follow_items names s s items [] (agree_itself names s) none)
 
 -- a set of one has no other
-pub one_has : (of n : ℕ) → IsTrue (has (set_of (of ∷ [])) n) → n ≡ of
+pub one_has : (of n : ℕ) → IsTrue (has (of ∷ []) n) → n ≡ of
 one_has of n h = elim (cases_eq n of) [
   | inl same ↦ same
-  | inr other ↦ absurd (both_ways _ refl ((inside_nothing []).has_too n (ap is_set (sym (get_or-set_other fresh of n 1 0 other)) ∙ h)))
+  | inr other ↦ absurd (both_ways _ refl (others_too [] of n other h))
 ]
 
 -- the number of a field that isn't in a set, by the other items
-picked : (names : List ℕ) (of : ℕ) (items : List Item) → IsFalse (has names of) → shown_items (set_of (of ∷ [])) (other_items names items) ≡ shown_items (set_of (of ∷ [])) items
+picked : (names : List ℕ) (of : ℕ) (items : List Item) → IsFalse (has names of) → shown_items (of ∷ []) (other_items names items) ≡ shown_items (of ∷ []) items
 picked names of [] out = refl
 picked names of (item ∷ items) out =
     let rest = picked names of items out in
     elim (cases_Bool (has names item.field)) [
       | inl taken ↦
-          let gone : has (set_of (of ∷ [])) item.field ≡ false = false_from_ne_true _ (λ h. both_ways _ out (ap (λ n. has names n) (sym (one_has of item.field h)) ∙ taken)) in
+          let gone : has (of ∷ []) item.field ≡ false = false_from_ne_true _ (λ h. both_ways _ out (ap (λ n. has names n) (sym (one_has of item.field h)) ∙ taken)) in
           rw (taken, gone) rest
-      | inr free ↦ elim (cases_Bool (has (set_of (of ∷ [])) item.field)) [
+      | inr free ↦ elim (cases_Bool (has (of ∷ []) item.field)) [
         | inl is ↦ rw (free, is) (ap (λ xs. item ∷ xs) rest)
         | inr is_not ↦ rw (free, is_not) rest
       ]
     ]
 
-pub number_by_others : (names : List ℕ) (of : ℕ) (items : List Item) → IsTrue (has (set_of (of ∷ [])) of) → IsFalse (has names of) → number items of ≡ number (other_items names items) of
+pub number_by_others : (names : List ℕ) (of : ℕ) (items : List Item) → IsTrue (has (of ∷ []) of) → IsFalse (has names of) → number items of ≡ number (other_items names items) of
 number_by_others names of items is out =
-    number_of_shown (set_of (of ∷ [])) of items is ∙ ap (λ xs. number xs of) (sym (picked names of items out)) ∙ sym (number_of_shown (set_of (of ∷ [])) of (other_items names items) is)
+    number_of_shown (of ∷ []) of items is ∙ ap (λ xs. number xs of) (sym (picked names of items out)) ∙ sym (number_of_shown (of ∷ []) of (other_items names items) is)
 
 -- sets that have none of the fields of tiles and slices
 abbrev pub is_clear : List ℕ → Bool
 is_clear [] = true
 is_clear (x ∷ xs) = (ltb x 417 || ltb 432 x) && is_clear xs
 
-without : (names xs : List ℕ) (n : ℕ) → 417 ≤ n → n ≤ 432 → is_clear xs ≡ true → has (with_all names xs) n ≡ has names n
-without names [] n low high clear = refl
-without names (x ∷ xs) n low high clear =
+pub clear_from : (xs : List ℕ) → is_clear xs ≡ true → Clear xs
+clear_from [] clear n low high = refl
+clear_from (x ∷ xs) clear n low high =
     let parts = and_parts (ltb x 417 || ltb 432 x) (is_clear xs) clear in
     let other : n ≢ x = λ e. elim (or_cases (ltb x 417) (ltb 432 x) parts.0) [
       | inl below ↦ absurd (omega (arith, e, ltb-true x 417 below))
       | inr above ↦ absurd (omega (arith, e, ltb-true 432 x above))
     ] in
-    without (slice_set names x 1) xs n low high parts.1 ∙ ap is_set (get_or-set_other names x n 1 0 other)
-
-pub clear_from : (xs : List ℕ) → is_clear xs ≡ true → Clear (set_of xs)
-clear_from xs clear n low high = without fresh xs n low high clear ∙ false_from_ne_true _ (λ h. both_ways _ refl ((inside_nothing []).has_too n h))
+    false_from_ne_true _ (λ h. both_ways _ (clear_from xs parts.1 n low high) (others_too xs x n other h))
 
 hidden_row : (names : List ℕ) (c : Cell Formula) → hides_row names (Field c) ≡ true → IsFalse (has names c.field)
 unfolding hides_row

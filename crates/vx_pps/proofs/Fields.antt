@@ -1,14 +1,12 @@
 -- Items of one field, and sets of fields by their lists.
-use Rattle.std.proofs.Common.{◌≡◌, inl, inr, ℕ, ◌==◌, ◌&&◌, Bool, true, false, not, IsTrue, List, [], ◌∷◌, slice_index, slice_set, refl, ap, sym, ◌∙◌}
+use Rattle.std.proofs.Common.{◌≡◌, inl, inr, ℕ, ◌==◌, ◌&&◌, Bool, true, false, not, IsTrue, List, [], ◌∷◌, slice_index, refl, ap, sym, ◌∙◌}
 use Rattle.std.specs.Prelude.{All, filter}
 use Rattle.std.proofs.lemmas.Bool.{and_parts, both_ways, cases_Bool, cases_eq, eqb-true, not-true}
-use Rattle.std.proofs.lemmas.List.{get_or-set_other}
 use Rattle.std.proofs.lemmas.List.Elements.{All-cons, All-head, All-nil, All-tail}
 use Rattle.vx_bits.specs.declared.list.Item.{Item}
-use Rattle.vx_table.specs.Depends.{Agree, has, set_of, with_all}
-use Rattle.vx_table.specs.Scope.{fresh, is_set}
+use Rattle.vx_table.specs.Depends.{Agree, has}
 use Rattle.vx_table.specs.Shown.{shown_items}
-use Rattle.vx_table.proofs.Groups.{inside_nothing}
+use Rattle.vx_table.proofs.Agreeing.{others_too}
 
 -- ---- items of one field
 
@@ -31,17 +29,13 @@ same_with names of items others inside same = sym (shown_with names of items ins
 
 -- ---- sets by their lists
 
-named_more : (P : ℕ → Type 0) (names more : List ℕ) (n : ℕ) → All P more → (IsTrue (has names n) → P n) → IsTrue (has (with_all names more) n) → P n
-named_more P names [] n all here is = here is
-named_more P names (m ∷ more) n all here is =
-    named_more P (slice_set names m 1) more n (All-tail P m more all) (λ there. elim (cases_eq n m) [
-      | inl same ↦ rw same (All-head P m more all)
-      | inr other ↦ here (ap is_set (sym (get_or-set_other names m n 1 0 other)) ∙ there)
-    ]) is
-
 -- what holds of each of some names holds of each name of their set
-pub named : (P : ℕ → Type 0) (names : List ℕ) (n : ℕ) → All P names → IsTrue (has (set_of names) n) → P n
-named P names n all is = named_more P fresh names n all (λ there. absurd (both_ways _ refl ((inside_nothing []).has_too n there))) is
+pub named : (P : ℕ → Type 0) (names : List ℕ) (n : ℕ) → All P names → IsTrue (has names n) → P n
+named P [] n all is = absurd (both_ways _ refl is)
+named P (m ∷ more) n all is = elim (cases_eq n m) [
+  | inl same ↦ rw same (All-head P m more all)
+  | inr other ↦ named P more n (All-tail P m more all) (others_too more m n other is)
+]
 
 abbrev pub passes : (ℕ → Bool) → List ℕ → Bool
 passes test [] = true
@@ -52,16 +46,16 @@ all_pass test P each [] pass = All-nil P
 all_pass test P each (n ∷ ns) pass = let parts = and_parts (test n) (passes test ns) pass in All-cons P n ns (each n parts.0) (all_pass test P each ns parts.1)
 
 -- scopes that agree on more agree on fewer
-pub agree_fewer : (names known s t : List ℕ) → passes (λ n. has known n) names ≡ true → Agree known s t → Agree (set_of names) s t
+pub agree_fewer : (names known s t : List ℕ) → passes (λ n. has known n) names ≡ true → Agree known s t → Agree names s t
 agree_fewer names known s t pass agree = record {
   size = agree.size;
   same = λ n is. named (λ m. slice_index s m ≡ slice_index t m) names n (all_pass (λ m. has known m) (λ m. slice_index s m ≡ slice_index t m) (λ m h. agree.same m h) names pass) is;
 }
 
 -- the items of one set are none of another
-pub apart : (names fields : List ℕ) (items : List Item) → passes (λ n. not (has names n)) fields ≡ true → shown_items names (shown_items (set_of fields) items) ≡ []
+pub apart : (names fields : List ℕ) (items : List Item) → passes (λ n. not (has names n)) fields ≡ true → shown_items names (shown_items fields items) ≡ []
 apart names fields [] none = refl
-apart names fields (x ∷ items) none = elim (cases_Bool (has (set_of fields) x.field)) [
+apart names fields (x ∷ items) none = elim (cases_Bool (has fields x.field)) [
   | inl is ↦
       let out : has names x.field ≡ false = named (λ m. has names m ≡ false) fields x.field (all_pass (λ m. not (has names m)) (λ m. has names m ≡ false) (λ m h. not-true (has names m) h) fields none) is in
       rw (is, out) (apart names fields items none)

@@ -4,7 +4,7 @@ use Rattle.std.proofs.lemmas.Bool.{true≢false}
 use Rattle.vx_bits.specs.declared.list.Item.{Item}
 use Rattle.vx_fields.specs.declared.pps.TheConstants as pps
 use Rattle.vx_table.specs.declared.rows.Coding.TheVariants.{Fixed}
-use Rattle.vx_table.specs.Depends.{Agree, set_of, with_all}
+use Rattle.vx_table.specs.Depends.{Agree}
 use Rattle.vx_table.specs.Forms.{after, coding_at, form_of, has_value, limits_at, one_field, part, present, turns}
 use Rattle.vx_table.specs.Kept.{kept_along, stands_for_field}
 use Rattle.vx_table.specs.Loaded.{number}
@@ -113,13 +113,13 @@ info_here (suc (suc p)) a b low la lb on = absurd (omega (arith, low))
 -- ---- these at any scope
 
 -- what a table reads tells what it keeps
-alike_there : (given : List ℕ) (group : List Section) {s t : List ℕ} {w : List ℤ} {last : List ℕ} → ReadsOnly given group → Agree (set_of given) s t → Follows (sections_form group s) w last
+alike_there : (given : List ℕ) (group : List Section) {s t : List ℕ} {w : List ℤ} {last : List ℕ} → ReadsOnly given group → Agree given s t → Follows (sections_form group s) w last
     → (e : List ℕ) × Follows (sections_form group t) w e × (items_along (sections_form group t) w ≡ items_along (sections_form group s) w) × (kept_along (sections_form group s) w ≡ kept_along (sections_form group t) w)
 alike_there given group {s} {t} {w} {last} reads agree follows =
-    let shown : List ℕ = with_all (set_of given) (named_by_all group) in
+    let shown : List ℕ = given ++ named_by_all group in
     let alike = (structure_depends_only_on given (named_by_all group) group reads.0).alike s t agree in
     let all = sections_show shown group reads.1 in
-    let again = follows_again shown (set_of given) (sections_form group s) (sections_form group t) w last alike (all.at s) (all.at t) follows in
+    let again = follows_again shown given (sections_form group s) (sections_form group t) w last alike (all.at s) (all.at t) follows in
     (again.last, again.follows, again.items, kept_alike alike (all.at s) (all.at t) follows again.follows)
 
 pub dbf_kept : (s : List ℕ) {w : List ℤ} {last : List ℕ} → length fresh ≡ length s → slice_index s pps.pps_no_pic_partition_flag < 2 → slice_index s pps.pps_deblocking_filter_override_enabled_flag < 2

@@ -1,13 +1,13 @@
 -- The set for a frame keeps what its source keeps: what is taken over, and four flags of picture headers by their numbers.
-use Rattle.std.proofs.Common.{◌≡◌, ℕ, ℤ, pos, ◌<◌, ◌||◌, ◌&&◌, Bool, true, false, IsTrue, IsFalse, List, [], ◌∷◌, ◌++◌, length, slice_index, slice_set, sym, ap, ◌∙◌, subst, inl, inr, arith, refl, append_assoc}
+use Rattle.std.proofs.Common.{◌≡◌, ℕ, ℤ, pos, ◌<◌, ◌||◌, ◌&&◌, Bool, true, false, IsTrue, IsFalse, List, [], ◌∷◌, ◌++◌, length, slice_index, sym, ap, ◌∙◌, subst, inl, inr, arith, refl, append_assoc}
 use Rattle.std.specs.Prelude.{not}
 use Rattle.std.proofs.lemmas.Bool.{and_parts, cases_Bool, cases_eq, ne_eqb}
-use Rattle.std.proofs.lemmas.List.{append-nil, get_or-set_other}
+use Rattle.std.proofs.lemmas.List.{append-nil}
 use Rattle.std.proofs.lemmas.List.Elements.{filter-append}
 use Rattle.vx_bits.specs.declared.list.Item.{Item}
 use Rattle.vx_fields.specs.declared.pps.TheConstants as pps
 use Rattle.vx_table.specs.Claims.{hides_row}
-use Rattle.vx_table.specs.Depends.{Agree, Inside, has, set_of, with_all}
+use Rattle.vx_table.specs.Depends.{Agree, Inside, has}
 use Rattle.vx_table.specs.EachField.{sections_pass}
 use Rattle.vx_table.specs.Kept.{kept_along}
 use Rattle.vx_table.specs.Loaded.{number}
@@ -17,7 +17,7 @@ use Rattle.vx_table.specs.Scope.{fresh, is_set, natural}
 use Rattle.vx_table.specs.Shown.{shown_items}
 use Rattle.vx_table.specs.Spelling.{items_along}
 use Rattle.vx_table.specs.Values.{Follows, Parted}
-use Rattle.vx_table.proofs.Agreeing.{inside_itself}
+use Rattle.vx_table.proofs.Agreeing.{inside_itself, others_too}
 use Rattle.vx_table.proofs.Groups.{cut, inside_nothing}
 use Rattle.vx_table.proofs.Keeping.{rewritten_keeps, sections_fill_none, shown_of_shown}
 use Rattle.vx_table.proofs.Loading.{number_of_last, number_of_shown}
@@ -38,19 +38,16 @@ use Rattle.vx_pps.proofs.Testing.{IsAside, IsRun, before_dbf, dbf_aside, dbf_fla
 
 -- ---- one set within another
 
-inside_one : (base more : List ℕ) (x : ℕ) → Inside base more → has more x ≡ true → Inside (slice_set base x 1) more
-inside_one base more x inside is = record {
-  has_too = λ n h. elim (cases_eq n x) [
-    | inl same ↦ subst (λ m. IsTrue (has more m)) (sym same) is
-    | inr other ↦ inside.has_too n (ap is_set (sym (get_or-set_other base x n 1 0 other)) ∙ h)
-  ];
-}
-
-pub inside_all : (base more xs : List ℕ) → Inside base more → is_inside more xs ≡ true → Inside (with_all base xs) more
-inside_all base more [] inside is = inside
-inside_all base more (x ∷ xs) inside is =
+pub inside_all : (more xs : List ℕ) → is_inside more xs ≡ true → Inside xs more
+inside_all more [] is = inside_nothing more
+inside_all more (x ∷ xs) is =
     let parts = and_parts (has more x) (is_inside more xs) is in
-    inside_all (slice_set base x 1) more xs (inside_one base more x inside parts.0) parts.1
+    record {
+      has_too = λ n h. elim (cases_eq n x) [
+        | inl same ↦ subst (λ m. IsTrue (has more m)) (sym same) parts.0
+        | inr other ↦ (inside_all more xs parts.1).has_too n (others_too xs x n other h)
+      ];
+    }
 
 -- ---- shown items of parts
 
@@ -197,38 +194,38 @@ module _ {items : List Item} {end_ : Partition} (p : Parts items end_) where
 
 -- ---- two sets
 
-pub runs_clear : Clear (set_of front_fields) × Clear (set_of early_fields) × Clear (set_of offsets_fields) × Clear (set_of end_fields)
+pub runs_clear : Clear front_fields × Clear early_fields × Clear offsets_fields × Clear end_fields
 runs_clear = (clear_from front_fields refl, clear_from early_fields refl, clear_from offsets_fields refl, clear_from end_fields refl)
 
 -- tables that are taken over keep the same
 run_keeps : (fields : List ℕ) (group : List Section) (s t : List ℕ) {v w : List ℤ} {a b : List ℕ} → IsRun fields group → Follows (sections_form group s) v a → Follows (sections_form group t) w b
-    → shown_items (set_of fields) (items_along (sections_form group s) v) ≡ shown_items (set_of fields) (items_along (sections_form group t) w) → kept_along (sections_form group s) v ≡ kept_along (sections_form group t) w
+    → shown_items fields (items_along (sections_form group s) v) ≡ shown_items fields (items_along (sections_form group t) w) → kept_along (sections_form group s) v ≡ kept_along (sections_form group t) w
 run_keeps fields group s t {v} {w} {a} {b} run on along same =
-    let set : List ℕ = set_of fields in
+    let set : List ℕ = fields in
     let keeps = (structure_keeps_only [] fields group run.1).keeps in
     rewritten_keeps set set (sections_form group s) (sections_form group t) v w a b (inside_itself set) (keeps s) (keeps t) (sections_fill_none group s run.2) (sections_fill_none group t run.2) on along same
 
 module _ {xs ys : List Item} {c d : Partition} (p : Parts xs c) (q : Parts ys d) (same : shown_items (names true) xs ≡ shown_items (names true) ys) where
   -- a set of fewer shows the same
-  less : (fields : List ℕ) → is_inside (names true) fields ≡ true → shown_items (set_of fields) xs ≡ shown_items (set_of fields) ys
+  less : (fields : List ℕ) → is_inside (names true) fields ≡ true → shown_items fields xs ≡ shown_items fields ys
   less fields is =
-      let inside : Inside (set_of fields) (names true) = inside_all fresh (names true) fields (inside_nothing (names true)) is in
-      sym (shown_of_shown (set_of fields) (names true) xs inside) ∙ ap (shown_items (set_of fields)) same ∙ shown_of_shown (set_of fields) (names true) ys inside
+      let inside : Inside fields (names true) = inside_all (names true) fields is in
+      sym (shown_of_shown fields (names true) xs inside) ∙ ap (shown_items fields) same ∙ shown_of_shown fields (names true) ys inside
 
   front_same : kept_along (sections_form before_tiles fresh) p.first.values ≡ kept_along (sections_form before_tiles fresh) q.first.values
   front_same =
-      let set : List ℕ = set_of front_fields in
+      let set : List ℕ = front_fields in
       run_keeps front_fields before_tiles fresh fresh front_run p.first.follows q.first.follows (sym (from_front p set runs_clear.0 front_aside) ∙ less front_fields front_run.0 ∙ from_front q set runs_clear.0 front_aside)
 
   early_same : kept_along (sections_form before_dbf p.scope) (at_dbf p).front ≡ kept_along (sections_form before_dbf q.scope) (at_dbf q).front
   early_same =
-      let set : List ℕ = set_of early_fields in
+      let set : List ℕ = early_fields in
       run_keeps early_fields before_dbf p.scope q.scope early_run (at_dbf p).first (at_dbf q).first
       (sym (from_early p set runs_clear.1 early_aside.0 early_aside.1) ∙ less early_fields early_run.0 ∙ from_early q set runs_clear.1 early_aside.0 early_aside.1)
 
   offsets_same : kept_along (sections_form dbf_offsets (at_offsets p).mid) (at_info p).front ≡ kept_along (sections_form dbf_offsets (at_offsets q).mid) (at_info q).front
   offsets_same =
-      let set : List ℕ = set_of offsets_fields in
+      let set : List ℕ = offsets_fields in
       let t = offsets_aside in
       run_keeps offsets_fields dbf_offsets (at_offsets p).mid (at_offsets q).mid offsets_run (at_info p).first (at_info q).first
       (sym (from_rest p set runs_clear.2 t.0 t.1 t.2 ∙ shows_first dbf_offsets from_info (at_offsets p).mid (at_info p) set t.3) ∙ less offsets_fields offsets_run.0
@@ -236,7 +233,7 @@ module _ {xs ys : List Item} {c d : Partition} (p : Parts xs c) (q : Parts ys d)
 
   end_same : kept_along (sections_form end (at_end p).mid) (at_end p).others ≡ kept_along (sections_form end (at_end q).mid) (at_end q).others
   end_same =
-      let set : List ℕ = set_of end_fields in
+      let set : List ℕ = end_fields in
       let t = end_aside in
       run_keeps end_fields end (at_end p).mid (at_end q).mid end_run (at_end p).second (at_end q).second
       (sym (from_headers p set runs_clear.3 t.0 t.1 t.2 t.3 ∙ shows_more header_info end (at_info p).mid (at_end p) set t.4) ∙ less end_fields end_run.0
@@ -342,7 +339,7 @@ dbf_stated x qp dbf weighted lists sao weights =
 -- the others' numbers are those of the items
 module _ {items source : List Item} {c d : Partition} (p : Parts items c) (q : Parts source d) (shape : PpsShape) (front_ : List Item)
     (same : shown_items (names true) items ≡ shown_items (names true) source) (others : other_items (names true) items ≡ front_ ++ frame_tool_items source shape.init_qp) where
-  told_by_others : (of : ℕ) → IsTrue (has (set_of (of ∷ [])) of) → IsFalse (has (names true) of) → number items of ≡ number (front_ ++ frame_tool_items source shape.init_qp) of
+  told_by_others : (of : ℕ) → IsTrue (has (of ∷ []) of) → IsFalse (has (names true) of) → number items of ≡ number (front_ ++ frame_tool_items source shape.init_qp) of
   told_by_others of is out = number_by_others (names true) of items is out ∙ ap (λ xs. number xs of) others
 
   told_by_shown : (of : ℕ) → IsTrue (has (names true) of) → number items of ≡ number source of

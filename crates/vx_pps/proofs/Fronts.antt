@@ -94,26 +94,26 @@ pub record HasFront (whole : ℕ) (shape : PpsShape) : Type 0 where
   pub subpic_id : IfSome shape.subpic_id IsId
 
 module _ (merged : Bool) (whole : ℕ) (shape : PpsShape) (has : HasFront whole shape) where
-  from_ids : (last : List ℕ) → Onward (names merged) fresh subpic_ids last (only_item pps.pps_no_pic_partition_flag (pos whole) ++ pps_subpic_id_items whole shape.subpic_id)
+  from_ids : (last : List ℕ) → Onward (names merged) [] subpic_ids last (only_item pps.pps_no_pic_partition_flag (pos whole) ++ pps_subpic_id_items whole shape.subpic_id)
   from_ids last s values follows =
-      replaced_group (names merged) fresh subpic_ids (subpic_ids_replaced merged).0 follows
+      replaced_group (names merged) [] subpic_ids (subpic_ids_replaced merged).0 follows
       (λ t agree empty. takes_at [] subpic_ids fresh t subpic_ids_read.0 subpic_ids_read.1 (agree_given [] empty.size tt) (subpics_at whole shape.subpic_id has.whole_is has.subpic_id))
 
-  from_size : (last : List ℕ) → Onward (names merged) fresh (size ++ (output ++ subpic_ids)) last
+  from_size : (last : List ℕ) → Onward (names merged) [] (size ++ (output ++ subpic_ids)) last
       ((only_item pps.pps_pic_width_in_luma_samples (pos shape.width) ++ (only_item pps.pps_pic_height_in_luma_samples (pos shape.height) ++ only_item pps.pps_conformance_window_flag (pos 0)))
       ++ (only_item pps.pps_no_pic_partition_flag (pos whole) ++ pps_subpic_id_items whole shape.subpic_id))
   from_size last =
-      replaced_first (names merged) fresh fresh size (output ++ subpic_ids) (inside_itself fresh) (size_replaced merged).0 (size_replaced merged).1
+      replaced_first (names merged) [] [] size (output ++ subpic_ids) (inside_itself []) (size_replaced merged).0 (size_replaced merged).1
       (λ s t w ends agree empty. takes_at [] size fresh t size_read.0 size_read.1 (agree_given [] empty.size tt) (size_at shape.width shape.height has.width has.height))
-      (copied_first (names merged) fresh output subpic_ids (output_taken merged).0 (output_taken merged).1 (output_taken merged).2 (from_ids last))
+      (copied_first (names merged) [] output subpic_ids (output_taken merged).0 (output_taken merged).1 (output_taken merged).2 (from_ids last))
 
-  from_first : (last : List ℕ) → Onward (names merged) fresh before_tiles last (front_items whole shape)
+  from_first : (last : List ℕ) → Onward (names merged) [] before_tiles last (front_items whole shape)
   from_first last =
-      replaced_first (names merged) fresh fresh ids (nal_types ++ (size ++ (output ++ subpic_ids))) (inside_itself fresh) (ids_replaced merged).0 (ids_replaced merged).1
+      replaced_first (names merged) [] [] ids (nal_types ++ (size ++ (output ++ subpic_ids))) (inside_itself []) (ids_replaced merged).0 (ids_replaced merged).1
       (λ s t w ends agree empty. takes_at [] ids fresh t ids_read.0 ids_read.1 (agree_given [] empty.size tt) (ids_at shape.id shape.sps_id has.id has.sps_id))
-      (copied_first (names merged) fresh nal_types (size ++ (output ++ subpic_ids)) (nal_types_taken merged).0 (nal_types_taken merged).1 (nal_types_taken merged).2 (from_size last))
+      (copied_first (names merged) [] nal_types (size ++ (output ++ subpic_ids)) (nal_types_taken merged).0 (nal_types_taken merged).1 (nal_types_taken merged).2 (from_size last))
 
   -- it goes, with what is stated in place of the source's
   pub front_goes : {values : List ℤ} {last : List ℕ} → Follows (sections_form before_tiles fresh) values last
       → Goes (names merged) last (shown_items (names merged) (items_along (sections_form before_tiles fresh) values)) (front_items whole shape) (sections_form before_tiles fresh)
-  front_goes {values} {last} follows = (from_first last fresh values follows).at fresh (agree_itself (names merged) fresh) (agree_itself fresh fresh)
+  front_goes {values} {last} follows = (from_first last fresh values follows).at fresh (agree_itself (names merged) fresh) (agree_itself [] fresh)

@@ -18,7 +18,7 @@ use Rattle.vx_table.specs.declared.rows.Fault.TheVariants.{Limit}
 use Rattle.vx_table.specs.declared.rows.Limits.{Limits}
 use Rattle.vx_table.specs.declared.rows.Limits.TheVariants.{Below}
 use Rattle.vx_table.specs.Claims.{hides_row}
-use Rattle.vx_table.specs.Depends.{has, set_of}
+use Rattle.vx_table.specs.Depends.{has}
 use Rattle.vx_table.specs.EachField.{EachField, sections_pass}
 use Rattle.vx_table.specs.Forms.{Form, done, has_value}
 use Rattle.vx_table.specs.Loaded as loading
@@ -191,22 +191,22 @@ slices_are g single {w} {slices} limits follows = elim (cases_Bool (is_set singl
 -- ---- the numbers of two fields that tiles and slices alone have
 
 -- no field between two others is this one
-not_between : (of low high : ℕ) (cell : Cell ℕ) → (low ≤ of → of ≤ high → ⊥) → IsBetween low high cell → IsFalse (has (set_of (of ∷ [])) cell.field)
+not_between : (of low high : ℕ) (cell : Cell ℕ) → (low ≤ of → of ≤ high → ⊥) → IsBetween low high cell → IsFalse (has (of ∷ []) cell.field)
 not_between of low high cell outside is = false_from_ne_true _ (λ h. let same = one_has of cell.field h in outside (subst (λ n. low ≤ n) same is.0) (subst (λ n. n ≤ high) same is.1))
 
-none_of : {A : Type 0} (of low high : ℕ) (form : Form A) {items : List Item} {end : A} → (low ≤ of → of ≤ high → ⊥) → EachField (IsBetween low high) form → Gives form items end → shown_items (set_of (of ∷ [])) items ≡ []
+none_of : {A : Type 0} (of low high : ℕ) (form : Form A) {items : List Item} {end : A} → (low ≤ of → of ≤ high → ⊥) → EachField (IsBetween low high) form → Gives form items end → shown_items (of ∷ []) items ≡ []
 none_of of low high form outside each gives =
-    ap (λ xs. shown_items (set_of (of ∷ [])) xs) (sym gives.given)
-    ∙ none_shown (set_of (of ∷ [])) (each_weaker (IsBetween low high) (λ cell. IsFalse (has (set_of (of ∷ [])) cell.field)) form (λ cell is. not_between of low high cell outside is) each) gives.follows
+    ap (λ xs. shown_items (of ∷ []) xs) (sym gives.given)
+    ∙ none_shown (of ∷ []) (each_weaker (IsBetween low high) (λ cell. IsFalse (has (of ∷ []) cell.field)) form (λ cell is. not_between of low high cell outside is) each) gives.follows
 
 shown_item : (names : List ℕ) (of : ℕ) (v : ℤ) → has names of ≡ true → shown_items names (only_item of v) ≡ only_item of v
 shown_item names of v is = rw is refl
 
 -- its number, where it is shown once among the items of tiles and slices, and not beside them
-told : {items : List Item} {end : Partition} (p : Parts items end) (of : ℕ) (v : ℤ) → of < 1024 → has (set_of (of ∷ [])) of ≡ true → sections_pass (hides_row (set_of (of ∷ []))) before_tiles ≡ true
-    → sections_pass (hides_row (set_of (of ∷ []))) after_slices ≡ true → shown_items (set_of (of ∷ [])) p.division ≡ only_item of v → loading.number items of ≡ natural v
+told : {items : List Item} {end : Partition} (p : Parts items end) (of : ℕ) (v : ℤ) → of < 1024 → has (of ∷ []) of ≡ true → sections_pass (hides_row (of ∷ [])) before_tiles ≡ true
+    → sections_pass (hides_row (of ∷ [])) after_slices ≡ true → shown_items (of ∷ []) p.division ≡ only_item of v → loading.number items of ≡ natural v
 told {items} p of v low is in_front in_tools shown =
-    let names : List ℕ = set_of (of ∷ []) in
+    let names : List ℕ = of ∷ [] in
     let no_front : shown_items names p.front_items ≡ [] = ap (λ xs. shown_items names xs) (sym p.first.given) ∙ none_shown names (sections_unshown names before_tiles fresh in_front) p.first.follows in
     let no_tools : shown_items names p.tool_items ≡ [] = ap (λ xs. shown_items names xs) (sym p.third.given) ∙ none_shown names (sections_unshown names after_slices p.scope in_tools) p.third.follows in
     let only : shown_items names items ≡ only_item of v = ap (λ xs. shown_items names xs) p.all ∙ only_middle names p.front_items [] [] p.division p.tool_items no_front refl refl no_tools ∙ shown in

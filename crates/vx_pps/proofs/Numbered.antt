@@ -5,7 +5,7 @@ use Rattle.std.proofs.lemmas.List.{append-nil}
 use Rattle.std.proofs.lemmas.List.Elements.{filter-append}
 use Rattle.vx_bits.specs.declared.list.Item.{Item}
 use Rattle.vx_fields.specs.declared.pps.TheConstants as pps
-use Rattle.vx_table.specs.Depends.{has, set_of}
+use Rattle.vx_table.specs.Depends.{has}
 use Rattle.vx_table.specs.Kept.{kept_along}
 use Rattle.vx_table.specs.Loaded.{number}
 use Rattle.vx_table.specs.Parts.{Section, sections_form}
@@ -29,13 +29,13 @@ use Rattle.vx_pps.proofs.Keeping.{kept_put}
 use Rattle.vx_pps.proofs.Testing.{IsRun, before_dbf, dbf_flag, dbf_offsets, early_aside, early_fields, early_run, end, end_aside, end_fields, end_run, from_info, front_aside, front_fields, front_run, header_info, info_flags, offsets_aside, offsets_fields, offsets_run}
 
 run_shows : (fields : List ℕ) (group : List Section) (s : List ℕ) {v : List ℤ} {a : List ℕ} → IsRun fields group → Follows (sections_form group s) v a
-    → kept_along (sections_form group s) v ≡ shown_items (set_of fields) (items_along (sections_form group s) v)
-run_shows fields group s run on = kept_are_shown (set_of fields) ((structure_keeps_only [] fields group run.1).keeps s) (sections_fill_none group s run.2) on
+    → kept_along (sections_form group s) v ≡ shown_items fields (items_along (sections_form group s) v)
+run_shows fields group s run on = kept_are_shown fields ((structure_keeps_only [] fields group run.1).keeps s) (sections_fill_none group s run.2) on
 
 -- ---- what a set keeps, by its items alone
 
 abbrev in_runs : List ℕ → List Item → List Item
-in_runs fields items = shown_items (set_of fields) items
+in_runs fields items = shown_items fields items
 
 abbrev dbf_flags : List Item → List Item
 dbf_flags items = only_item pps.pps_dbf_info_in_ph_flag (pos (number items pps.pps_dbf_info_in_ph_flag))
@@ -48,14 +48,14 @@ all_kept items = in_runs front_fields items ++ (in_runs early_fields items ++ (d
 
 kept_is : {items : List Item} {e : Partition} → Parts items e → kept_pps_items items ≡ all_kept items
 kept_is {items} p =
-    let first = run_shows front_fields before_tiles fresh front_run p.first.follows ∙ sym (from_front p (set_of front_fields) runs_clear.0 front_aside) in
-    let early = run_shows early_fields before_dbf p.scope early_run (at_dbf p).first ∙ sym (from_early p (set_of early_fields) runs_clear.1 early_aside.0 early_aside.1) in
+    let first = run_shows front_fields before_tiles fresh front_run p.first.follows ∙ sym (from_front p front_fields runs_clear.0 front_aside) in
+    let early = run_shows early_fields before_dbf p.scope early_run (at_dbf p).first ∙ sym (from_early p early_fields runs_clear.1 early_aside.0 early_aside.1) in
     let t = offsets_aside in
     let offsets = run_shows offsets_fields dbf_offsets (at_offsets p).mid offsets_run (at_info p).first
-    ∙ sym (from_rest p (set_of offsets_fields) runs_clear.2 t.0 t.1 t.2 ∙ shows_first dbf_offsets from_info (at_offsets p).mid (at_info p) (set_of offsets_fields) t.3) in
+    ∙ sym (from_rest p offsets_fields runs_clear.2 t.0 t.1 t.2 ∙ shows_first dbf_offsets from_info (at_offsets p).mid (at_info p) offsets_fields t.3) in
     let u = end_aside in
     let last = run_shows end_fields end (at_end p).mid end_run (at_end p).second
-    ∙ sym (from_headers p (set_of end_fields) runs_clear.3 u.0 u.1 u.2 u.3 ∙ shows_more header_info end (at_info p).mid (at_end p) (set_of end_fields) u.4) in
+    ∙ sym (from_headers p end_fields runs_clear.3 u.0 u.1 u.2 u.3 ∙ shows_more header_info end (at_info p).mid (at_end p) end_fields u.4) in
     ap kept_pps_items p.all ∙ kept_put p.first p.second p.third ∙ rw (first, kept_runs p, early, (dbf_keeps p).0, offsets, (info_keeps p).0, last) refl
 
 -- ---- parts of it
@@ -73,31 +73,31 @@ itself : (set : List ℕ) (items : List Item) → shown_items set (shown_items s
 itself set items = shown_of_shown set set items (inside_itself set)
 
 -- the runs
-front_told : (items : List Item) → shown_items (set_of front_fields) (all_kept items) ≡ in_runs front_fields items
+front_told : (items : List Item) → shown_items front_fields (all_kept items) ≡ in_runs front_fields items
 unfolding fresh
 front_told items =
-    let set = set_of front_fields in
+    let set = front_fields in
     shown_six set (in_runs front_fields items) (in_runs early_fields items) (dbf_flags items) (in_runs offsets_fields items) (header_flags items) (in_runs end_fields items)
     ∙ rw (itself set items, apart set early_fields items refl, apart set offsets_fields items refl, apart set end_fields items refl) (append-nil (in_runs front_fields items))
 
-early_told : (items : List Item) → shown_items (set_of early_fields) (all_kept items) ≡ in_runs early_fields items
+early_told : (items : List Item) → shown_items early_fields (all_kept items) ≡ in_runs early_fields items
 unfolding fresh
 early_told items =
-    let set = set_of early_fields in
+    let set = early_fields in
     shown_six set (in_runs front_fields items) (in_runs early_fields items) (dbf_flags items) (in_runs offsets_fields items) (header_flags items) (in_runs end_fields items)
     ∙ rw (apart set front_fields items refl, itself set items, apart set offsets_fields items refl, apart set end_fields items refl) (append-nil (in_runs early_fields items))
 
-offsets_told : (items : List Item) → shown_items (set_of offsets_fields) (all_kept items) ≡ in_runs offsets_fields items
+offsets_told : (items : List Item) → shown_items offsets_fields (all_kept items) ≡ in_runs offsets_fields items
 unfolding fresh
 offsets_told items =
-    let set = set_of offsets_fields in
+    let set = offsets_fields in
     shown_six set (in_runs front_fields items) (in_runs early_fields items) (dbf_flags items) (in_runs offsets_fields items) (header_flags items) (in_runs end_fields items)
     ∙ rw (apart set front_fields items refl, apart set early_fields items refl, itself set items, apart set end_fields items refl) (append-nil (in_runs offsets_fields items))
 
-end_told : (items : List Item) → shown_items (set_of end_fields) (all_kept items) ≡ in_runs end_fields items
+end_told : (items : List Item) → shown_items end_fields (all_kept items) ≡ in_runs end_fields items
 unfolding fresh
 end_told items =
-    let set = set_of end_fields in
+    let set = end_fields in
     shown_six set (in_runs front_fields items) (in_runs early_fields items) (dbf_flags items) (in_runs offsets_fields items) (header_flags items) (in_runs end_fields items)
     ∙ rw (apart set front_fields items refl, apart set early_fields items refl, apart set offsets_fields items refl, itself set items) refl
 
@@ -130,7 +130,7 @@ first_number (x ∷ xs) = magnitude x.value
 
 -- a kept field is one of a run, or one of the four flags
 abbrev is_kept : ℕ → Bool
-is_kept n = (has (set_of front_fields) n || has (set_of early_fields) n) || ((has (set_of offsets_fields) n || has (set_of end_fields) n)
+is_kept n = (has front_fields n || has early_fields n) || ((has offsets_fields n || has end_fields n)
     || ((n == pps.pps_dbf_info_in_ph_flag || n == pps.pps_rpl_info_in_ph_flag) || (n == pps.pps_sao_info_in_ph_flag || n == pps.pps_wp_info_in_ph_flag)))
 
 all_are_kept : passes is_kept kept_pps_fields ≡ true
@@ -142,16 +142,16 @@ module _ {xs ys : List Item} {c d : Partition} (p : Parts xs c) (q : Parts ys d)
   all_same = sym (kept_is p) ∙ same ∙ kept_is q
 
   front_same : in_runs front_fields xs ≡ in_runs front_fields ys
-  front_same = sym (front_told xs) ∙ ap (λ l. shown_items (set_of front_fields) l) all_same ∙ front_told ys
+  front_same = sym (front_told xs) ∙ ap (λ l. shown_items front_fields l) all_same ∙ front_told ys
 
   early_same : in_runs early_fields xs ≡ in_runs early_fields ys
-  early_same = sym (early_told xs) ∙ ap (λ l. shown_items (set_of early_fields) l) all_same ∙ early_told ys
+  early_same = sym (early_told xs) ∙ ap (λ l. shown_items early_fields l) all_same ∙ early_told ys
 
   offsets_same : in_runs offsets_fields xs ≡ in_runs offsets_fields ys
-  offsets_same = sym (offsets_told xs) ∙ ap (λ l. shown_items (set_of offsets_fields) l) all_same ∙ offsets_told ys
+  offsets_same = sym (offsets_told xs) ∙ ap (λ l. shown_items offsets_fields l) all_same ∙ offsets_told ys
 
   end_same : in_runs end_fields xs ≡ in_runs end_fields ys
-  end_same = sym (end_told xs) ∙ ap (λ l. shown_items (set_of end_fields) l) all_same ∙ end_told ys
+  end_same = sym (end_told xs) ∙ ap (λ l. shown_items end_fields l) all_same ∙ end_told ys
 
   dbf_same : dbf_flags xs ≡ dbf_flags ys
   dbf_same = sym (dbf_told xs) ∙ ap (λ l. shown_items dbf_flag l) all_same ∙ dbf_told ys
@@ -159,8 +159,8 @@ module _ {xs ys : List Item} {c d : Partition} (p : Parts xs c) (q : Parts ys d)
   info_same : header_flags xs ≡ header_flags ys
   info_same = sym (info_told xs) ∙ ap (λ l. shown_items info_flags l) all_same ∙ info_told ys
 
-  in_run : (fields : List ℕ) (n : ℕ) → in_runs fields xs ≡ in_runs fields ys → IsTrue (has (set_of fields) n) → number xs n ≡ number ys n
-  in_run fields n alike is = number_of_shown (set_of fields) n xs is ∙ ap (λ l. number l n) alike ∙ sym (number_of_shown (set_of fields) n ys is)
+  in_run : (fields : List ℕ) (n : ℕ) → in_runs fields xs ≡ in_runs fields ys → IsTrue (has fields n) → number xs n ≡ number ys n
+  in_run fields n alike is = number_of_shown fields n xs is ∙ ap (λ l. number l n) alike ∙ sym (number_of_shown fields n ys is)
 
   flag : (of n : ℕ) → (n == of) ≡ true → number xs of ≡ number ys of → number xs n ≡ number ys n
   flag of n is alike = subst (λ m. number xs m ≡ number ys m) (sym (eqb-true n of is)) alike
@@ -180,13 +180,13 @@ module _ {xs ys : List Item} {c d : Partition} (p : Parts xs c) (q : Parts ys d)
   ]
 
   each : (n : ℕ) → is_kept n ≡ true → number xs n ≡ number ys n
-  each n is = elim (or_cases (has (set_of front_fields) n || has (set_of early_fields) n) _ is) [
-    | inl early ↦ elim (or_cases (has (set_of front_fields) n) (has (set_of early_fields) n) early) [
+  each n is = elim (or_cases (has front_fields n || has early_fields n) _ is) [
+    | inl early ↦ elim (or_cases (has front_fields n) (has early_fields n) early) [
       | inl in_front ↦ in_run front_fields n front_same in_front
       | inr in_early ↦ in_run early_fields n early_same in_early
     ]
-    | inr late ↦ elim (or_cases (has (set_of offsets_fields) n || has (set_of end_fields) n) _ late) [
-      | inl later ↦ elim (or_cases (has (set_of offsets_fields) n) (has (set_of end_fields) n) later) [
+    | inr late ↦ elim (or_cases (has offsets_fields n || has end_fields n) _ late) [
+      | inl later ↦ elim (or_cases (has offsets_fields n) (has end_fields n) later) [
         | inl in_offsets ↦ in_run offsets_fields n offsets_same in_offsets
         | inr in_end ↦ in_run end_fields n end_same in_end
       ]
@@ -198,7 +198,7 @@ module _ {xs ys : List Item} {c d : Partition} (p : Parts xs c) (q : Parts ys d)
   unfolding fresh
   gives_same = record {
     numbers = λ n is. named (λ m. number xs m ≡ number ys m) kept_pps_fields n (all_pass is_kept (λ m. number xs m ≡ number ys m) each kept_pps_fields all_are_kept) is;
-    active = λ list. ap (λ l. slice_index (map (λ (x : Item). natural x.value) l) list) (same_with (set_of early_fields) pps.pps_num_ref_idx_default_active_minus1 xs ys refl early_same);
+    active = λ list. ap (λ l. slice_index (map (λ (x : Item). natural x.value) l) list) (same_with early_fields pps.pps_num_ref_idx_default_active_minus1 xs ys refl early_same);
   }
 
 pub kept_tells_numbers : KeptTellsNumbers

@@ -9,7 +9,7 @@ use Rattle.vx_table.specs.Forms.{Form, done}
 use Rattle.vx_table.specs.Kept.{kept_along}
 use Rattle.vx_table.specs.Parts.{sections_form}
 use Rattle.vx_table.specs.Spelling.{items_along}
-use Rattle.vx_table.specs.Depends.{Agree, has, set_of}
+use Rattle.vx_table.specs.Depends.{Agree, has}
 use Rattle.vx_table.specs.Loaded.{number}
 use Rattle.vx_table.specs.Rewritten.{IsRewritten, other_items}
 use Rattle.vx_table.specs.Scope.{fresh, is_set}
@@ -100,8 +100,8 @@ unfolding fresh
 front_untaken true = (refl, refl, refl)
 front_untaken false = (refl, refl, refl)
 
-ones : (has (set_of (pps.pps_no_pic_partition_flag ∷ [])) pps.pps_no_pic_partition_flag ≡ true) × (has (set_of (pps.pps_pic_width_in_luma_samples ∷ [])) pps.pps_pic_width_in_luma_samples ≡ true)
-    × (has (set_of (pps.pps_pic_height_in_luma_samples ∷ [])) pps.pps_pic_height_in_luma_samples ≡ true) × (has numbered pps.pps_no_pic_partition_flag ≡ true) × (has numbered pps.pps_pic_width_in_luma_samples ≡ true)
+ones : (has (pps.pps_no_pic_partition_flag ∷ []) pps.pps_no_pic_partition_flag ≡ true) × (has (pps.pps_pic_width_in_luma_samples ∷ []) pps.pps_pic_width_in_luma_samples ≡ true)
+    × (has (pps.pps_pic_height_in_luma_samples ∷ []) pps.pps_pic_height_in_luma_samples ≡ true) × (has numbered pps.pps_no_pic_partition_flag ≡ true) × (has numbered pps.pps_pic_width_in_luma_samples ≡ true)
     × (has numbered pps.pps_pic_height_in_luma_samples ≡ true)
 unfolding fresh
 ones = (refl, refl, refl, refl, refl, refl)
@@ -126,7 +126,7 @@ front_gone merged whole_ shape {source} {scope} has_ gives =
     let goes = front_goes merged whole_ shape has_ gives.follows in
     let items : List Item = items_along (sections_form before_tiles fresh) goes.values in
     let loads = (sections_load numbered before_tiles front_numbered).at fresh goes.values goes.last goes.follows in
-    let same : (of : ℕ) → has numbered of ≡ true → has (set_of (of ∷ [])) of ≡ true → IsFalse (has (names merged) of) → slice_index goes.last of ≡ number (front_items whole_ shape) of
+    let same : (of : ℕ) → has numbered of ≡ true → has (of ∷ []) of ≡ true → IsFalse (has (names merged) of) → slice_index goes.last of ≡ number (front_items whole_ shape) of
     = λ of is one out. sym (loads.same of is) ∙ number_by_others (names merged) of items one out ∙ ap (λ xs. number xs of) goes.other_ones in
     record {
       items = items;

@@ -7,7 +7,7 @@ use Rattle.vx_table.specs.Parts.{Section, always}
 use Rattle.std.specs.Prelude.{drop, filter, nat_lt}
 use Rattle.vx_table.specs.declared.rows.Row.{Row}
 use Rattle.vx_table.specs.EachField.{rows_pass, sections_pass}
-use Rattle.vx_table.specs.Depends.{has, set_of, with_all}
+use Rattle.vx_table.specs.Depends.{has}
 use Rattle.vx_table.specs.laws.Bounds.{tells_range}
 use Rattle.vx_table.specs.Claims.{knows_formula, knows_width, knows_range, knows_presence, hides_counter, hides_row, behind_field, within_block, depends, behind_rows, table_depends, behind_table, comes_always, sections_chain, sections_hide, sections_depend_only_on}
 use Rattle.vx_table.specs.laws.Again.{shows_row}
@@ -22,7 +22,7 @@ use Rattle.vx_pps.specs.Pps.{before_tiles, after_slices}
 
 -- what is taken over, for a frame or for a region
 abbrev pub names : Bool → List ℕ
-names merged = set_of (cond merged taken_for_frame taken_for_region)
+names merged = cond merged taken_for_frame taken_for_region
 
 -- ---- the groups of tables
 
@@ -69,10 +69,10 @@ end = always tables.END ∷ []
 
 -- pps_no_pic_partition_flag, whose number is 0 in a frame's set
 abbrev pub whole : List ℕ
-whole = set_of (pps.pps_no_pic_partition_flag ∷ [])
+whole = pps.pps_no_pic_partition_flag ∷ []
 
 abbrev pub IsTaken : Bool → List Section → Type 0
-IsTaken merged group = (sections_chain (names merged) (names merged) group ≡ true) × (sections_pass (shows_row (names merged)) group ≡ true) × (sections_hide fresh group ≡ true) × (sections_hide whole group ≡ true)
+IsTaken merged group = (sections_chain (names merged) (names merged) group ≡ true) × (sections_pass (shows_row (names merged)) group ≡ true) × (sections_hide [] group ≡ true) × (sections_hide whole group ≡ true)
 
 pub nal_types_taken : (merged : Bool) → IsTaken merged nal_types
 unfolding fresh has_value knows_formula knows_width knows_range knows_presence hides_counter hides_row behind_field within_block depends behind_rows table_depends behind_table comes_always shows_row
@@ -107,7 +107,7 @@ end_taken = (refl, refl, refl, refl)
 -- ---- replaced: none of their fields is taken over
 
 abbrev pub IsReplaced : Bool → List Section → Type 0
-IsReplaced merged group = (sections_hide (names merged) group ≡ true) × (sections_hide fresh group ≡ true)
+IsReplaced merged group = (sections_hide (names merged) group ≡ true) × (sections_hide [] group ≡ true)
 
 pub ids_replaced : (merged : Bool) → IsReplaced merged ids
 unfolding fresh hides_counter hides_row
@@ -143,7 +143,7 @@ header_info_replaced = (refl, refl)
 -- ---- what replaced groups read
 
 abbrev pub ReadsOnly : List ℕ → List Section → Type 0
-ReadsOnly given group = (sections_depend_only_on given (named_by_all group) group ≡ true) × (sections_pass (shows_row (with_all (set_of given) (named_by_all group))) group ≡ true)
+ReadsOnly given group = (sections_depend_only_on given (named_by_all group) group ≡ true) × (sections_pass (shows_row (given ++ named_by_all group)) group ≡ true)
 
 pub ids_read : ReadsOnly [] ids
 unfolding fresh has_value knows_formula knows_width knows_range knows_presence hides_counter hides_row behind_field within_block depends behind_rows table_depends behind_table comes_always shows_row
@@ -181,7 +181,7 @@ abbrev pub tool_names : List ℕ
 tool_names = named_by_all after_slices
 
 abbrev pub tools_shown : List ℕ
-tools_shown = with_all (set_of (pps.pps_no_pic_partition_flag ∷ [])) (tool_names ++ taken_for_region)
+tools_shown = ((pps.pps_no_pic_partition_flag ∷ []) ++ (tool_names ++ taken_for_region))
 
 pub tools_read : (sections_depend_only_on (pps.pps_no_pic_partition_flag ∷ []) (tool_names ++ taken_for_region) after_slices ≡ true) × (sections_pass (shows_row tools_shown) after_slices ≡ true) × (sections_pass (shows_row (names false)) after_slices ≡ true)
 unfolding fresh has_value knows_formula knows_width knows_range knows_presence hides_counter hides_row behind_field within_block depends behind_rows table_depends behind_table comes_always shows_row
@@ -191,8 +191,8 @@ tools_read = (refl, refl, refl)
 
 -- of these fields the scope at the end has the numbers of the items
 abbrev pub numbered : List ℕ
-numbered = set_of (pps.pps_pic_width_in_luma_samples ∷ pps.pps_pic_height_in_luma_samples ∷ pps.pps_no_pic_partition_flag ∷ pps.pps_weighted_pred_flag
-    ∷ pps.pps_weighted_bipred_flag ∷ [])
+numbered = pps.pps_pic_width_in_luma_samples ∷ pps.pps_pic_height_in_luma_samples ∷ pps.pps_no_pic_partition_flag ∷ pps.pps_weighted_pred_flag
+    ∷ pps.pps_weighted_bipred_flag ∷ []
 
 pub front_numbered : sections_name_none numbered before_tiles ≡ true
 unfolding fresh hides_counter names_none
@@ -200,7 +200,7 @@ front_numbered = refl
 
 -- the tools give no number to the three of the front
 abbrev pub early : List ℕ
-early = set_of (pps.pps_pic_width_in_luma_samples ∷ pps.pps_pic_height_in_luma_samples ∷ pps.pps_no_pic_partition_flag ∷ [])
+early = pps.pps_pic_width_in_luma_samples ∷ pps.pps_pic_height_in_luma_samples ∷ pps.pps_no_pic_partition_flag ∷ []
 
 pub tools_early : sections_hide early after_slices ≡ true
 unfolding fresh hides_counter hides_row
@@ -219,7 +219,7 @@ info_stands = refl
 
 -- this field gets a number, in a scope that has none of it, within one table alone
 abbrev pub override : List ℕ
-override = set_of (pps.pps_deblocking_filter_override_enabled_flag ∷ [])
+override = pps.pps_deblocking_filter_override_enabled_flag ∷ []
 
 abbrev pub before_control : List Section
 before_control = prediction ++ (init_qp ++ qp_offsets)
@@ -255,10 +255,10 @@ flags_are = ((refl, refl), (refl, refl), (refl, refl), (refl, refl), (refl, refl
 
 -- two fields that tiles and slices alone have
 abbrev pub ctb_size : List ℕ
-ctb_size = set_of (pps.pps_log2_ctu_size_minus5 ∷ [])
+ctb_size = pps.pps_log2_ctu_size_minus5 ∷ []
 
 abbrev pub single_slices : List ℕ
-single_slices = set_of (pps.pps_single_slice_per_subpic_flag ∷ [])
+single_slices = pps.pps_single_slice_per_subpic_flag ∷ []
 
 pub ctb_size_unshown : (sections_pass (hides_row ctb_size) before_tiles ≡ true) × (sections_pass (hides_row ctb_size) after_slices ≡ true)
 unfolding fresh hides_counter hides_row
@@ -299,7 +299,7 @@ is_inside more (x ∷ xs) = has more x && is_inside more xs
 
 -- tables that keep exactly these fields, all taken over, and fill in nothing
 abbrev pub IsRun : List ℕ → List Section → Type 0
-IsRun fields group = (is_inside (names true) fields ≡ true) × (sections_stars_tell (set_of fields) group ≡ true) × (sections_pass fills_none group ≡ true)
+IsRun fields group = (is_inside (names true) fields ≡ true) × (sections_stars_tell fields group ≡ true) × (sections_pass fills_none group ≡ true)
 
 -- tables with no field of a set
 abbrev pub IsAside : List ℕ → List Section → Type 0
@@ -322,10 +322,10 @@ end_fields = filter (λ n. nat_lt 466 n) taken_for_frame
 
 -- the flags that stand in the place of absent ones too
 abbrev pub dbf_flag : List ℕ
-dbf_flag = set_of (pps.pps_dbf_info_in_ph_flag ∷ [])
+dbf_flag = pps.pps_dbf_info_in_ph_flag ∷ []
 
 abbrev pub info_flags : List ℕ
-info_flags = set_of (pps.pps_rpl_info_in_ph_flag ∷ pps.pps_sao_info_in_ph_flag ∷ pps.pps_wp_info_in_ph_flag ∷ [])
+info_flags = pps.pps_rpl_info_in_ph_flag ∷ pps.pps_sao_info_in_ph_flag ∷ pps.pps_wp_info_in_ph_flag ∷ []
 
 pub front_run : IsRun front_fields before_tiles
 unfolding fresh star_tells stands_for_field fills_none has_value
@@ -343,19 +343,19 @@ pub end_run : IsRun end_fields end
 unfolding fresh star_tells stands_for_field fills_none has_value
 end_run = (refl, refl, refl)
 
-pub front_aside : IsAside (set_of front_fields) after_slices
+pub front_aside : IsAside front_fields after_slices
 unfolding fresh hides_counter hides_row
 front_aside = refl
 
-pub early_aside : IsAside (set_of early_fields) before_tiles × IsAside (set_of early_fields) from_dbf
+pub early_aside : IsAside early_fields before_tiles × IsAside early_fields from_dbf
 unfolding fresh hides_counter hides_row
 early_aside = (refl, refl)
 
-pub offsets_aside : IsAside (set_of offsets_fields) before_tiles × IsAside (set_of offsets_fields) before_dbf × IsAside (set_of offsets_fields) dbf_info × IsAside (set_of offsets_fields) from_info
+pub offsets_aside : IsAside offsets_fields before_tiles × IsAside offsets_fields before_dbf × IsAside offsets_fields dbf_info × IsAside offsets_fields from_info
 unfolding fresh hides_counter hides_row
 offsets_aside = (refl, refl, refl, refl)
 
-pub end_aside : IsAside (set_of end_fields) before_tiles × IsAside (set_of end_fields) before_dbf × IsAside (set_of end_fields) dbf_info × IsAside (set_of end_fields) dbf_offsets × IsAside (set_of end_fields) header_info
+pub end_aside : IsAside end_fields before_tiles × IsAside end_fields before_dbf × IsAside end_fields dbf_info × IsAside end_fields dbf_offsets × IsAside end_fields header_info
 unfolding fresh hides_counter hides_row
 end_aside = (refl, refl, refl, refl, refl)
 

@@ -1,5 +1,5 @@
 -- What items are to a form: the values that they give its fields, and where these lead. Our own.
-use Rattle.std.specs.Prelude.{ℤ, pos, Bool, true, false, List, [], ◌∷◌, Option, Some, None, ◌==◌}
+use Rattle.std.specs.Prelude.{ℤ, pos, Bool, true, false, List, [], ◌∷◌, Option, Some, None}
 use Rattle.vx_bits.specs.declared.list.Item.{Item}
 use Rattle.vx_table.specs.Forms.{Form, done, field, has_value}
 

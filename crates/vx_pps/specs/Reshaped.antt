@@ -11,7 +11,6 @@ use Rattle.vx_layout.specs.declared.rect.Rect.{Rect}
 use Rattle.vx_layout.specs.Layouts.{HasLayout}
 use Rattle.vx_layout.specs.Rects.{whole_picture}
 use Rattle.vx_layout.specs.Shapes.{AreListable}
-use Rattle.vx_table.specs.Depends.{set_of}
 use Rattle.vx_table.specs.Loaded.{number}
 use Rattle.vx_table.specs.Parts.{Section, always}
 use Rattle.vx_table.specs.Rewritten.{IsRewritten}
@@ -182,7 +181,7 @@ abbrev pub taken_for_frame : List ℕ
 taken_for_frame = pps.pps_rbsp_trailing_bits ∷ unstarred (before_tiles ++ tools_for_frame)
 
 abbrev pub taken : PpsShape → List ℕ
-taken shape = set_of (cond shape.merged taken_for_frame taken_for_region)
+taken shape = cond shape.merged taken_for_frame taken_for_region
 
 -- The items are those of a set. Those of the fields that are taken over are the source's, and the others are exactly what is
 -- stated.

@@ -1,7 +1,6 @@
 //! The picture parameter set that is sent for a region or a frame, put together of its source's fields and stated ones.
 ghost use Rattle.std.specs.Prelude.{◌≡◌, cond, List, ◌++◌, OnOk, IfOk};
 ghost use Rattle.vx_bits.specs.declared.list.Item.{Item};
-ghost use Rattle.vx_table.specs.Depends as sets;
 ghost use Rattle.vx_pps.specs.Groups.{Group};
 ghost use Rattle.vx_pps.specs.Reshaped as reshaped;
 ghost use Rattle.vx_pps.specs.Written as written;
@@ -18,7 +17,7 @@ use crate::walk::code_pps;
 use std::alloc::{AllocError, Global};
 use vx_bits::Fields;
 use vx_fields::pps::*;
-use vx_table::{Rewriter, Scope, SpellError, Unwritten, ceil_log2, item, items_of};
+use vx_table::{Rewriter, SpellError, Unwritten, ceil_log2, item, items_of};
 
 /// Whether the picture isn't partitioned.
 fn whole_flag(source: &Pps, shape: &PpsShape) -> u32
@@ -191,11 +190,11 @@ fn stated(alloc: Global, source: &Pps, shape: &PpsShape) -> Result<Fields, Alloc
 /// Puts a set together of the items of some fields and of those of all others, where there is one that has both.
 fn put_together(
     alloc: Global,
-    names: Scope,
+    names: &[u16],
     shown: &Fields,
     others: &Fields,
 ) -> Result<Option<Pps>, AllocError>
-    ensures { IfOk result (λ set. PutsTogether names shown.now others.now set) }
+    ensures { IfOk result (λ set. PutsTogether names.now shown.now others.now set) }
 {
     let shown = Unwritten::new(shown, 0, shown.len());
     let others = Unwritten::new(others, 0, others.len());
@@ -222,9 +221,10 @@ pub fn reshape_pps(alloc: Global, pps: &Pps, shape: &PpsShape) -> Result<Pps, Al
     requires { IsShape pps.now shape.now }
     ensures { IfOk result (λ set. IsReshapedPps pps.now shape.now set) }
 {
-    let names = taken(shape.merged);
+    let list = taken(alloc, shape.merged)?;
+    let names = list.as_slice();
     let fields = pps.fields();
-    let shown = items_of(alloc, fields, &names)?;
+    let shown = items_of(alloc, fields, names)?;
     let others = stated(alloc, pps, shape)?;
     let set = put_together(alloc, names, &shown, &others)?;
     match set {

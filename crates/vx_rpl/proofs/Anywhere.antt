@@ -13,7 +13,7 @@ use Rattle.vx_table.specs.Forms.{Form, done, field, has_value, coding_at, limits
 use Rattle.vx_table.specs.EachField.{EachField, rows_pass}
 use Rattle.vx_table.specs.Spelling.{code_of, item_of, items_along}
 use Rattle.vx_table.specs.Values.{IsValueOf, Follows, to_end, through}
-use Rattle.vx_table.specs.Depends.{has, with_all, set_of, Agree}
+use Rattle.vx_table.specs.Depends.{has, Agree}
 use Rattle.vx_table.specs.Claims.{knows_formula, knows_width, knows_range, knows_presence, hides_counter, hides_row, behind_field, within_block, depends, table_depends, behind_table}
 use Rattle.vx_table.specs.Named.{named_by}
 use Rattle.vx_table.specs.laws.Again.{shows_row}
@@ -45,20 +45,20 @@ abbrev entries_read : List ℕ
 entries_read = sps_log2_max_pic_order_cnt_lsb_minus4 ∷ sps_weighted_pred_flag ∷ sps_weighted_bipred_flag ∷ sps_long_term_ref_pics_flag ∷ num_ref_entries ∷ ltrp_in_header_flag ∷ []
 
 -- what goes through rows at a scope goes through them at each that agrees on what they read
-again : (given : List ℕ) (rows : List Row) (s t : List ℕ) (w : List ℤ) (end : List ℕ) → table_depends (with_all (set_of given) (named_by rows)) (set_of given) rows ≡ true
-    → rows_pass (shows_row (with_all (set_of given) (named_by rows))) rows ≡ true → Agree (set_of given) s t → Follows (form_of rows s) w end → GoAlike (form_of rows s) (form_of rows t) w
+again : (given : List ℕ) (rows : List Row) (s t : List ℕ) (w : List ℤ) (end : List ℕ) → table_depends (given ++ named_by rows) given rows ≡ true
+    → rows_pass (shows_row (given ++ named_by rows)) rows ≡ true → Agree given s t → Follows (form_of rows s) w end → GoAlike (form_of rows s) (form_of rows t) w
 again given rows s t w end test shows agree on =
-    let all : List ℕ = with_all (set_of given) (named_by rows) in
-    let carries = table_carries all (set_of given) rows test in
+    let all : List ℕ = given ++ named_by rows in
+    let carries = table_carries all given rows test in
     let shown = tables_show all rows shows in
-    let goes = follows_again all (behind_table all (set_of given) rows) (form_of rows s) (form_of rows t) w end (carries.alike (inside_with_all (set_of given) (named_by rows)) s t agree) (shown.at s) (shown.at t) on in
+    let goes = follows_again all (behind_table all given rows) (form_of rows s) (form_of rows t) w end (carries.alike (inside_with_all given (named_by rows)) s t agree) (shown.at s) (shown.at t) on in
     record { end = goes.last; follows = goes.follows; items = goes.items; bits = goes.bits }
 
-tail_again : (s t : List ℕ) (w : List ℤ) (end : List ℕ) → Agree (set_of tail_reads) s t → Follows (form_of tail_rows s) w end → GoAlike (form_of tail_rows s) (form_of tail_rows t) w
+tail_again : (s t : List ℕ) (w : List ℤ) (end : List ℕ) → Agree tail_reads s t → Follows (form_of tail_rows s) w end → GoAlike (form_of tail_rows s) (form_of tail_rows t) w
 unfolding fresh has_value knows_formula knows_width knows_range knows_presence hides_counter hides_row behind_field within_block depends table_depends shows_row
 tail_again s t w end agree on = again tail_reads tail_rows s t w end refl refl agree on
 
-entries_again : (s t : List ℕ) (w : List ℤ) (end : List ℕ) → Agree (set_of entries_read) s t → Follows (form_of entry_rows s) w end → GoAlike (form_of entry_rows s) (form_of entry_rows t) w
+entries_again : (s t : List ℕ) (w : List ℤ) (end : List ℕ) → Agree entries_read s t → Follows (form_of entry_rows s) w end → GoAlike (form_of entry_rows s) (form_of entry_rows t) w
 unfolding fresh has_value knows_formula knows_width knows_range knows_presence hides_counter hides_row behind_field within_block depends table_depends shows_row
 entries_again s t w end agree on = again entries_read entry_rows s t w end refl refl agree on
 
@@ -109,15 +109,15 @@ same_scopes names n i k j l index count =
     = λ i k. agree_on (agree_outside names (lists_scope n) STRUCTURE i index) (agree_outside names (slice_set (lists_scope n) STRUCTURE i) NUM_STRUCTURES k count) in
     agree_on (agree_back (to i k)) (to j l)
 
-tails_agree : (n : RplNumbers) (i k j l m b : ℕ) → Agree (set_of tail_reads) (at_tail n i k m b) (at_tail n j l m b)
+tails_agree : (n : RplNumbers) (i k j l m b : ℕ) → Agree tail_reads (at_tail n i k m b) (at_tail n j l m b)
 unfolding fresh
 tails_agree n i k j l m b =
-    set_keeps (set_of tail_reads) _ _ IN_SPS b (set_keeps (set_of tail_reads) _ _ num_ref_entries m (same_scopes (set_of tail_reads) n i k j l refl refl))
+    set_keeps tail_reads _ _ IN_SPS b (set_keeps tail_reads _ _ num_ref_entries m (same_scopes tail_reads n i k j l refl refl))
 
-entries_agree : (n : RplNumbers) (i k j l m b c g h f : ℕ) → Agree (set_of entries_read) (at_entries n i k m b g f) (at_entries n j l m c h f)
+entries_agree : (n : RplNumbers) (i k j l m b c g h f : ℕ) → Agree entries_read (at_entries n i k m b g f) (at_entries n j l m c h f)
 unfolding fresh
 entries_agree n i k j l m b c g h f =
-    let names : List ℕ = set_of entries_read in
+    let names : List ℕ = entries_read in
     let to : (s : List ℕ) (x y : ℕ) → Agree names s (slice_set (slice_set s IN_SPS x) IN_HEADER y) = λ s x y. agree_on (agree_outside names s IN_SPS x refl) (agree_outside names (slice_set s IN_SPS x) IN_HEADER y refl) in
     let base : Agree names (slice_set (structure_scope n i k) num_ref_entries m) (slice_set (structure_scope n j l) num_ref_entries m) = set_keeps names _ _ num_ref_entries m (same_scopes names n i k j l refl refl) in
     set_keeps names _ _ ltrp_in_header_flag f (agree_on (agree_back (to _ b g)) (agree_on base (to _ c h)))

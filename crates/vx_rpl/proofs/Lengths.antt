@@ -19,7 +19,7 @@ use Rattle.vx_table.specs.EachField.{EachField}
 use Rattle.vx_table.specs.Loaded.{StaysBelow, row_below, code_below, range_below}
 use Rattle.vx_table.specs.Spelling.{item_of, items_along}
 use Rattle.vx_table.specs.Values.{Follows, to_end}
-use Rattle.vx_table.specs.Depends.{set_of, Agree}
+use Rattle.vx_table.specs.Depends.{Agree}
 use Rattle.vx_table.specs.Claims.{hides_counter, hides_row}
 use Rattle.vx_table.proofs.Blocks.{form-field}
 use Rattle.vx_table.proofs.Agreeing.{agree_on, agree_outside}
@@ -47,7 +47,7 @@ abbrev late_rows : List Row
 late_rows = drop 7 REF_PIC_LIST_STRUCT
 
 abbrev number : List ℕ
-number = set_of (num_ref_entries ∷ [])
+number = num_ref_entries ∷ []
 
 -- ---- before the entries nothing but the flag
 

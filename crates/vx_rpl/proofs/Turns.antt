@@ -1,5 +1,5 @@
 -- Turn by turn: the items of a structure are those of as many entries, and a header tells of each long-term one.
-use Rattle.std.proofs.Common.{◌≡◌, ◌⊎◌, inl, inr, ℕ, ℤ, pos, negsuc, zero, suc, ◌+◌, ◌≤◌, ◌==◌, Bool, true, false, cond, ◌&&◌, IsFalse, List, [], ◌∷◌, ◌++◌, length, drop, take, slice_index, slice_set, count_by, Option, refl, ap, sym, subst, ◌∙◌, arith}
+use Rattle.std.proofs.Common.{◌≡◌, ◌⊎◌, inl, inr, ℕ, ℤ, pos, negsuc, zero, suc, ◌+◌, ◌≤◌, ◌==◌, Bool, true, false, cond, ◌&&◌, List, [], ◌∷◌, ◌++◌, length, drop, take, slice_index, slice_set, count_by, Option, refl, ap, sym, subst, ◌∙◌, arith}
 use Rattle.std.proofs.lemmas.Bool.{cases_Bool, eqb-true}
 use Rattle.std.proofs.lemmas.List.{append_assoc, append-nil}
 use Rattle.std.proofs.lemmas.List.Sums.{sum_by-cons}
@@ -17,7 +17,7 @@ use Rattle.vx_table.specs.Forms.{Form, done, field, ◌>>=◌, has_value, coding
 use Rattle.vx_table.specs.EachField.{rows_pass}
 use Rattle.vx_table.specs.Spelling.{HasCode, item_of, items_along}
 use Rattle.vx_table.specs.Values.{IsValueOf, Follows, to_end, through}
-use Rattle.vx_table.specs.Depends.{has, with_all, set_of, Agree}
+use Rattle.vx_table.specs.Depends.{Agree}
 use Rattle.vx_table.specs.Claims.{knows_formula, knows_width, knows_range, knows_presence, hides_counter, hides_row, hides, behind_field, within_block, depends, behind_rows, table_depends, behind_table}
 use Rattle.vx_table.specs.Named.{named_by}
 use Rattle.vx_table.specs.laws.Again.{GoesToo, shows_row}
@@ -42,14 +42,14 @@ use Rattle.vx_rpl.proofs.Entries.{entries_stop}
 -- ---- at scopes that are written out
 
 -- the values of rows at a scope go through them at each that agrees on what they read, and leave scopes that agree
-pub along : (given : List ℕ) (rows : List Row) (s t : List ℕ) {w : List ℤ} {end : List ℕ} → table_depends (with_all (set_of given) (named_by rows)) (set_of given) rows ≡ true
-    → rows_pass (shows_row (with_all (set_of given) (named_by rows))) rows ≡ true → Agree (set_of given) s t → Follows (form_of rows s) w end
-    → GoesToo (behind_table (with_all (set_of given) (named_by rows)) (set_of given) rows) (form_of rows s) (form_of rows t) w end
+pub along : (given : List ℕ) (rows : List Row) (s t : List ℕ) {w : List ℤ} {end : List ℕ} → table_depends (given ++ named_by rows) given rows ≡ true
+    → rows_pass (shows_row (given ++ named_by rows)) rows ≡ true → Agree given s t → Follows (form_of rows s) w end
+    → GoesToo (behind_table (given ++ named_by rows) given rows) (form_of rows s) (form_of rows t) w end
 along given rows s t {w} {end} test shows agree on =
-    let all : List ℕ = with_all (set_of given) (named_by rows) in
-    let carries = table_carries all (set_of given) rows test in
+    let all : List ℕ = given ++ named_by rows in
+    let carries = table_carries all given rows test in
     let shown = tables_show all rows shows in
-    follows_again all (behind_table all (set_of given) rows) (form_of rows s) (form_of rows t) w end (carries.alike (inside_with_all (set_of given) (named_by rows)) s t agree) (shown.at s) (shown.at t) on
+    follows_again all (behind_table all given rows) (form_of rows s) (form_of rows t) w end (carries.alike (inside_with_all given (named_by rows)) s t agree) (shown.at s) (shown.at t) on
 
 pub ended : {s : List ℕ} {w : List ℤ} {end : List ℕ} → Follows (done s) w end → (w ≡ []) × (end ≡ s)
 ended to_end = (refl, refl)
@@ -139,15 +139,15 @@ long_takes b h w end on = elim (optional (Plain (Latest ltrp_in_header_flag)) (l
 ]
 
 -- the size of a scope stays
-size_stays : (rows : List Row) (s : List ℕ) {w : List ℤ} {end : List ℕ} → hides fresh rows ≡ true → length s ≡ length fresh → Follows (form_of rows s) w end → length end ≡ length fresh
-size_stays rows s {w} {end} hide size on = sym (leaves_agree fresh (form_of rows) s w end (tables_leave fresh rows hide) on).size ∙ size
+size_stays : (rows : List Row) (s : List ℕ) {w : List ℤ} {end : List ℕ} → hides [] rows ≡ true → length s ≡ length fresh → Follows (form_of rows s) w end → length end ≡ length fresh
+size_stays rows s {w} {end} hide size on = sym (leaves_agree [] (form_of rows) s w end (tables_leave [] rows hide) on).size ∙ size
 
 -- at each scope
 long_turn : (s : List ℕ) (w : List ℤ) (end : List ℕ) → length s ≡ length fresh → Follows (form_of long_rows s) w end → TakesLong (items_along (form_of long_rows s) w) × (length end ≡ length fresh)
 unfolding fresh long_at has_value knows_formula knows_width knows_range knows_presence hides_counter hides_row behind_field within_block depends behind_rows table_depends behind_table shows_row
 long_turn s w end size on =
     let t : List ℕ = long_at (slice_index s sps_log2_max_pic_order_cnt_lsb_minus4) (slice_index s ltrp_in_header_flag) in
-    let agree : Agree (set_of long_given) s t = agree_given long_given size (refl, (refl, tt)) in
+    let agree : Agree long_given s t = agree_given long_given size (refl, (refl, tt)) in
     let again = along long_given long_rows s t refl refl agree on in
     let takes = long_takes _ _ w again.last again.follows in
     (subst TakesLong again.items takes, size_stays long_rows s refl size on)
@@ -309,7 +309,7 @@ entry_turn : (s : List ℕ) (w : List ℤ) (end : List ℕ) → length s ≡ len
 unfolding fresh entry_at has_value knows_formula knows_width knows_range knows_presence hides_counter hides_row behind_field within_block depends behind_rows table_depends behind_table shows_row
 entry_turn s w end size on =
     let t : List ℕ = entry_at (slice_index s sps_log2_max_pic_order_cnt_lsb_minus4) (slice_index s sps_long_term_ref_pics_flag) (slice_index s ltrp_in_header_flag) (slice_index s MAY_WEIGHT) (slice_index s ENTRY) (slice_index s LONG_ENTRIES) in
-    let agree : Agree (set_of entry_given) s t = agree_given entry_given size (refl, (refl, (refl, (refl, (refl, (refl, tt)))))) in
+    let agree : Agree entry_given s t = agree_given entry_given size (refl, (refl, (refl, (refl, (refl, (refl, tt)))))) in
     let again = along entry_given entry_rows s t refl refl agree on in
     let got = turn_at _ _ _ _ _ _ w again.last again.follows in
     (record { long = got.long; are = subst (EntryItems got.long) again.items got.are; counted = again.agree.same LONG_ENTRIES refl ∙ got.counted }, size_stays entry_rows s refl size on)
@@ -325,10 +325,6 @@ sum_more n c o m e first more = omega (arith, first, more)
 
 count_cons : (entry : RefEntry) (entries : List RefEntry) → count_by is_long (entry ∷ entries) ≡ one_if (is_long entry) + count_by is_long entries
 count_cons entry entries = sum_by-cons (λ x. cond (is_long x) 1 0) entry entries
-
-outside_fresh : IsFalse (has fresh ENTRY)
-unfolding fresh
-outside_fresh = refl
 
 abbrev pub starts : List Item → Bool
 starts [] = false
@@ -351,7 +347,7 @@ turns_are zero s turn size few to_end =
     (λ weighted i rest stop. let none = none_from weighted i rest stop in (ap length none.0, ap (λ x. slice_index s LONG_ENTRIES + count_by is_long x) none.0 ∙ omega arith, none.1), size)
 turns_are (suc k) s turn {w} {end} size few on =
     let before : List ℕ = slice_set s ENTRY turn in
-    let agree = agree_outside (set_of (LONG_ENTRIES ∷ [])) s ENTRY turn refl in
+    let agree = agree_outside (LONG_ENTRIES ∷ []) s ENTRY turn refl in
     let same : slice_index s LONG_ENTRIES ≡ slice_index before LONG_ENTRIES = agree.same LONG_ENTRIES refl in
     let p = parted (form_of entry_rows before) (turns (form_of entry_rows) ENTRY (turn + 1) k) on in
     let one = entry_turn before p.front p.mid (sym agree.size ∙ size) p.first in
@@ -390,7 +386,7 @@ long_turns (Long lsb msb ∷ entries) (suc n) s turn rest {w} is size on none =
     let before : List ℕ = slice_set s ENTRY turn in
     let next : List ℕ → Form (List ℕ) = turns (form_of long_rows) ENTRY (turn + 1) n in
     let p = parted (form_of long_rows before) next on in
-    let one = long_turn before p.front p.mid (sym (agree_outside fresh s ENTRY turn outside_fresh).size ∙ size) p.first in
+    let one = long_turn before p.front p.mid (sym (agree_outside [] s ENTRY turn refl).size ∙ size) p.first in
     let front : List Item = items_along (form_of long_rows before) p.front in
     let later : List Item = items_along (next p.mid) p.others in
     let more = long_turns entries n p.mid (turn + 1) rest (omega (arith, is, count_cons (Long lsb msb) entries)) one.1 p.second none in

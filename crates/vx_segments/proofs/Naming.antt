@@ -6,7 +6,7 @@ use Rattle.std.proofs.lemmas.Bool.{cases_Bool, true≢false}
 use Rattle.std.proofs.lemmas.Bool.Decides.{eqb_tells}
 use Rattle.vx_bits.specs.declared.list.Item.{Item}
 use Rattle.vx_fields.specs.declared.alf.TheConstants as alf
-use Rattle.vx_table.specs.Depends.{has, set_of}
+use Rattle.vx_table.specs.Depends.{has}
 use Rattle.vx_table.specs.Scope.{natural}
 use Rattle.vx_aps.specs.declared.aps.Aps.{Aps}
 use Rattle.vx_aps.specs.declared.aps.TheConstants as aps
@@ -88,7 +88,7 @@ module _ (p q : Parts) where
 -- ---- ids
 
 -- a field that names a set is one of four
-four_fields : (n : ℕ) → has (set_of set_ids) n ≡ true → ((P : ℕ → Type 0) → P 683 → P 686 → P 688 → P 690 → P n)
+four_fields : (n : ℕ) → has set_ids n ≡ true → ((P : ℕ → Type 0) → P 683 → P 686 → P 688 → P 690 → P n)
 four_fields n is P a b c d = elim (eqb_tells 683 n) [
   | inl e ↦ subst P e.1 a
   | inr x ↦ elim (eqb_tells 686 n) [
@@ -123,7 +123,7 @@ module _ (p q : Parts) (f g : ℕ → ℕ) (told : (id : ℕ) → body_of p aps.
     cr = named_rest (SameAt p q) aps.ALF 690 x items all.cr;
   }
 
-  one_same : (x : Item) (items : List Item) → FourSame (x ∷ items) → has (set_of set_ids) x.field ≡ true → f (natural x.value) ≡ g (natural x.value)
+  one_same : (x : Item) (items : List Item) → FourSame (x ∷ items) → has set_ids x.field ≡ true → f (natural x.value) ≡ g (natural x.value)
   one_same x items all is =
       let at = λ (of : ℕ) (same : HaveAlike p q (named aps.ALF of (x ∷ items))) (on : (x.field == of) ≡ true). told (natural x.value) (body_same p q aps.ALF (natural x.value) (named_here (SameAt p q) aps.ALF of x items on same)) in
       four_fields x.field is (λ n. (x.field == n) ≡ true → f (natural x.value) ≡ g (natural x.value)) (at 683 all.luma) (at 686 all.chroma) (at 688 all.cb) (at 690 all.cr) (itself x.field)
@@ -132,9 +132,9 @@ module _ (p q : Parts) (f g : ℕ → ℕ) (told : (id : ℕ) → body_of p aps.
   ids_of_four [] all = refl
   ids_of_four (x ∷ items) all =
       let rest = ids_of_four items (fewer x items all) in
-      elim (cases_Bool (has (set_of alf.ALL) x.field)) [
+      elim (cases_Bool (has alf.ALL x.field)) [
         | inr hidden ↦ rw hidden rest
-        | inl shown ↦ elim (cases_Bool (has (set_of set_ids) x.field)) [
+        | inl shown ↦ elim (cases_Bool (has set_ids x.field)) [
           | inr plain ↦ rw (shown, plain) (ap (λ l. x ∷ l) rest)
           | inl known ↦ rw (shown, known)
               (ap (λ n. record { field = x.field; value = pos n } ∷ with_ids f (filter_of items)) (one_same x items all known)

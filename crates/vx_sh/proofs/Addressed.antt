@@ -10,7 +10,6 @@ use Rattle.vx_table.specs.Scope.{fresh, natural, value}
 use Rattle.vx_table.specs.Forms.{done, has_value, coding_at, limits_at, after, one_field, part, present, form_of}
 use Rattle.vx_table.specs.Spelling.{fault_of}
 use Rattle.vx_table.specs.Values.{Follows, to_end, through}
-use Rattle.vx_table.specs.Depends.{set_of}
 use Rattle.vx_table.specs.Claims.{hides_counter, hides_row}
 use Rattle.vx_table.specs.Loaded.{number}
 use Rattle.vx_table.proofs.Bounds.{unbroken}
@@ -88,7 +87,7 @@ addresses_are_below n fields inside f size =
     let i = parted (form_of SUBPIC_ID f.at) (λ t. done (located n.ids n.layout t)) k.first in
     let told = numbers_are_told n fields inside f size in
     let id_whole : length i.mid ≡ 1024 = sym (id_size f.at i.front i.mid i.first) ∙ sym (inside_size n.slice f.first f.at f.begins) ∙ size in
-    let still = left_end ((tables_leave (set_of (NUM_SLICES ∷ [])) KNOWN_SUBPIC refl).at k.mid) k.second in
+    let still = left_end ((tables_leave (NUM_SLICES ∷ []) KNOWN_SUBPIC refl).at k.mid) k.second in
     let whole : length b.mid ≡ 1024 = sym still.size ∙ ap length (sym (done_is i.second)) ∙ located_size n.ids n.layout i.mid ∙ id_whole in
     let index : index_of (slice_index i.mid sh_subpic_id) n.ids ≡ slice_index f.end SUBPIC = ap (λ id. index_of id n.ids) (id_is n fields inside f size b k i) ∙ sym told.subpic in
     let slices : slice_index b.mid NUM_SLICES ≡ num_slices_in_subpic n.layout (slice_index f.end SUBPIC)

@@ -1,7 +1,6 @@
 -- A slice header is read at another place that agrees with its own.
-use Rattle.std.proofs.Common.{◌≡◌, inl, inr, ℕ, ℤ, ◌<◌, ◌*◌, Bool, false, ◌==◌, nat_le, List, [], ◌∷◌, ◌++◌, length, slice_index, slice_set, refl, ap, sym, subst, ◌∙◌}
+use Rattle.std.proofs.Common.{◌≡◌, inl, inr, ℕ, ℤ, ◌<◌, ◌*◌, Bool, false, ◌==◌, nat_le, List, ◌∷◌, ◌++◌, length, slice_index, slice_set, refl, ap, sym, subst, ◌∙◌}
 use Rattle.std.proofs.lemmas.Bool.{cases_Bool, lt-leb}
-use Rattle.std.proofs.lemmas.List.{get_or-set_other}
 use Rattle.vx_bits.specs.declared.list.Item.{Item}
 use Rattle.vx_bits.specs.Codes.{bits_of}
 use Rattle.vx_table.specs.Scope.{fresh, is_set, value}
@@ -9,18 +8,19 @@ use Rattle.vx_table.specs.Forms.{Form, done, ◌>>=◌, has_value, part, present
 use Rattle.vx_table.specs.Parts.{sections_form}
 use Rattle.vx_table.specs.Spelling.{Spells, items_along}
 use Rattle.vx_table.specs.Values.{Follows, Parted}
-use Rattle.vx_table.specs.Depends.{with_all, set_of, Inside, Agree, Alike, at_ends}
+use Rattle.vx_table.specs.Depends.{Agree, Alike, at_ends}
 use Rattle.vx_table.specs.Claims.{knows_formula, knows_width, knows_range, knows_presence, hides_counter, hides_row, behind_field, within_block, depends, table_depends, behind_rows, behind_table}
 use Rattle.vx_table.specs.laws.Again.{AllShown, shows_row}
 use Rattle.vx_table.specs.Loaded.{number}
-use Rattle.vx_table.proofs.Agreeing.{agree_back, agree_on, agree_less, agree_set, agree_outside}
+use Rattle.vx_table.proofs.Agreeing.{agree_back, agree_on, agree_set, agree_outside, others_too, with_one}
 use Rattle.vx_table.proofs.Again.{follows_again, reads_again, tables_show, all_shown_then}
 use Rattle.vx_table.proofs.Chains.{table_carries}
-use Rattle.vx_table.proofs.Dependence.{alike_then, inside_with_all}
+use Rattle.vx_table.proofs.Dependence.{alike_then}
+use Rattle.vx_pps.proofs.Fields.{agree_fewer}
 use Rattle.vx_table.proofs.Rewrites.{left_end}
 use Rattle.vx_table.proofs.Joined.{parted, joined, items_joined, spells_joined, spells_parted}
 use Rattle.vx_fields.specs.declared.sh.TheConstants.{sh_picture_header_in_slice_header_flag, sh_subpic_id, sh_slice_address}
-use Rattle.vx_fields.specs.declared.sps.TheConstants.{sps_subpic_info_present_flag, sps_subpic_id_len_minus1, sps_entropy_coding_sync_enabled_flag, sps_entry_point_offsets_present_flag}
+use Rattle.vx_fields.specs.declared.sps.TheConstants.{sps_entropy_coding_sync_enabled_flag, sps_entry_point_offsets_present_flag}
 use Rattle.vx_fields.specs.declared.names.sh.TheConstants.{NUM_SUBPICS, SUBPIC, NUM_SLICES}
 use Rattle.vx_fields.specs.declared.rpl.TheConstants as rpl
 use Rattle.vx_layout.specs.declared.numbers.Numbers.{Numbers}
@@ -145,21 +145,21 @@ rest_same table points other s same =
 
 -- what agrees behind the first field, behind the id, and behind the subpicture
 known_1 : List ℕ
-known_1 = with_all (set_of given) (sh_picture_header_in_slice_header_flag ∷ [])
+known_1 = sh_picture_header_in_slice_header_flag ∷ given
 
 known_2 : List ℕ
-known_2 = with_all known_1 (sh_subpic_id ∷ [])
+known_2 = sh_subpic_id ∷ known_1
 
 known_3 : List ℕ
-known_3 = with_all known_2 (NUM_SLICES ∷ [])
+known_3 = NUM_SLICES ∷ known_2
 
-goes_first : (s t : List ℕ) (values : List ℤ) (end : List ℕ) → Agree (set_of given) s t → Follows (form_of HEADER_INSIDE s) values end
+goes_first : (s t : List ℕ) (values : List ℤ) (end : List ℕ) → Agree given s t → Follows (form_of HEADER_INSIDE s) values end
     → GoesOn known_1 (form_of HEADER_INSIDE s) (form_of HEADER_INSIDE t) values end
 unfolding fresh has_value knows_formula knows_width knows_range knows_presence hides_counter hides_row behind_field within_block depends table_depends behind_rows behind_table shows_row known_1
 goes_first s t values end agree on =
-    let carries = table_carries known_1 (set_of given) HEADER_INSIDE refl in
+    let carries = table_carries known_1 given HEADER_INSIDE refl in
     let all = tables_show known_1 HEADER_INSIDE refl in
-    alike_goes (carries.alike (inside_with_all (set_of given) (sh_picture_header_in_slice_header_flag ∷ [])) s t agree) (all.at s) (all.at t) on
+    alike_goes (carries.alike (with_one given sh_picture_header_in_slice_header_flag) s t agree) (all.at s) (all.at t) on
 
 goes_id : (s t : List ℕ) (values : List ℤ) (end : List ℕ) → Agree known_1 s t → Follows (form_of SUBPIC_ID s) values end
     → GoesOn known_2 (form_of SUBPIC_ID s) (form_of SUBPIC_ID t) values end
@@ -167,13 +167,13 @@ unfolding fresh has_value knows_formula knows_width knows_range knows_presence h
 goes_id s t values end agree on =
     let carries = table_carries known_2 known_1 SUBPIC_ID refl in
     let all = tables_show known_2 SUBPIC_ID refl in
-    alike_goes (carries.alike (inside_with_all known_1 (sh_subpic_id ∷ [])) s t agree) (all.at s) (all.at t) on
+    alike_goes (carries.alike (with_one known_1 sh_subpic_id) s t agree) (all.at s) (all.at t) on
 
 -- the picture header, where it stands inside
 abbrev flag : List ℕ → ℕ
 flag s = slice_index s sh_picture_header_in_slice_header_flag
 
-goes_inside : (table : RplTable) (sets others s t : List ℕ) (values : List ℤ) (end : List ℕ) → Agree (set_of ph.all_of_sets) sets others → Agree known_1 s t
+goes_inside : (table : RplTable) (sets others s t : List ℕ) (values : List ℤ) (end : List ℕ) → Agree ph.all_of_sets sets others → Agree known_1 s t
     → Follows (header_inside table sets s) values end → GoesOn known_1 (header_inside table sets s) (header_inside table others t) values end
 unfolding fresh known_1
 goes_inside table sets others s t values end agree_sets agree on =
@@ -186,7 +186,7 @@ goes_inside table sets others s t values end agree_sets agree on =
       | inr some ↦
           let here = something_inside table sets s some in
           let there = something_inside table others t (rw same at some) in
-          let shown = with_all (set_of ph.all_of_sets) ph.of_header in
+          let shown = ph.all_of_sets ++ ph.of_header in
           let all = ph_passing.shows_all table in
           rw (here, there) (alike_goes {shown = shown} (alike_then ((ph_carrying.all_depend table).alike sets others agree_sets) (λ u w behind. at_ends agree))
           (all_shown_then shown (header_form table sets) (λ u. done s) (all.at sets) (λ u. tt)) (all_shown_then shown (header_form table others) (λ u. done t) (all.at others) (λ u. tt)) (rw here at on))
@@ -208,7 +208,7 @@ located_agree ids others layout other s t agree same =
     let j = index_of (slice_index t sh_subpic_id) others in
     let here = agree_on (agree_outside known_2 s NUM_SUBPICS (length ids) refl) (agree_outside known_2 (slice_set s NUM_SUBPICS (length ids)) SUBPIC i refl) in
     let there = agree_on (agree_outside known_2 t NUM_SUBPICS (length others) refl) (agree_outside known_2 (slice_set t NUM_SUBPICS (length others)) SUBPIC j refl) in
-    rw same (agree_set NUM_SLICES (num_slices_in_subpic other j) (λ m is_not h. ap is_set (sym (get_or-set_other known_2 NUM_SLICES m 1 0 is_not)) ∙ h) (agree_on (agree_back here) (agree_on agree there)))
+    rw same (agree_set NUM_SLICES (num_slices_in_subpic other j) (λ m is_not h. others_too known_2 NUM_SLICES m is_not h) (agree_on (agree_back here) (agree_on agree there)))
 
 goes_located : (ids others : List ℕ) (layout other : Numbers) (s t : List ℕ) (values : List ℤ) (end : List ℕ) → Agree known_2 s t
     → num_slices_in_subpic layout (index_of (slice_index s sh_subpic_id) ids) ≡ num_slices_in_subpic other (index_of (slice_index t sh_subpic_id) others)
@@ -236,16 +236,15 @@ index_is ids layout s at w u size is on =
     sym ((left_end (known_leaves.at at) on).same SUBPIC refl) ∙ ap (λ x. slice_index x SUBPIC) (sym is) ∙ located_is ids layout s size
 
 -- all that the rest depends on is known there
-all_known : Inside (set_of all_given) known_3
-unfolding fresh known_1 known_2 known_3
-all_known = inside_with_all (set_of all_given) (sps_subpic_info_present_flag ∷ sps_subpic_id_len_minus1 ∷ sps_entropy_coding_sync_enabled_flag
-    ∷ sps_entry_point_offsets_present_flag ∷ sh_subpic_id ∷ [])
+all_agree : (s t : List ℕ) → Agree known_3 s t → Agree all_given s t
+unfolding known_1 known_2 known_3
+all_agree s t agree = agree_fewer all_given known_3 s t refl agree
 
 -- what is behind
 goes_there : (table : RplTable) (layout other : Numbers) (s t : List ℕ) (values : List ℤ) (end : List ℕ) → Agree known_3 s t → ((a : ℕ) → points_of layout s a ≡ points_of other t a)
-    → Follows (there table layout s) values end → GoesOn (set_of all_given) (there table layout s) (there table other t) values end
+    → Follows (there table layout s) values end → GoesOn all_given (there table layout s) (there table other t) values end
 goes_there table layout other s t values end agree same on =
-    let given_agree : Agree (set_of all_given) s t = agree_less all_known agree in
+    let given_agree : Agree all_given s t = all_agree s t agree in
     let points = points_of layout s in
     let all = all_are_shown table points in
     goes_same (alike_goes ((all_depend table points).alike s t given_agree) (all.at s) (all.at t) on) (rest_same table points (points_of other t) t same)
@@ -262,7 +261,7 @@ record IsThere (n m : At) (fields : List Item) (inside : List ℤ) (f : AreField
   spells : (total : ℕ) (left rest : List Bool) → Spells total (slice_form n) (values_of f) left rest → Spells total (slice_form m) (values_of there) left rest
 
 is_there : (n : At) (sets slice ids : List ℕ) (layout : Numbers) (fields : List Item) (inside : List ℤ) (f : AreFields n fields inside) → length n.slice ≡ 1024
-    → Agree (set_of ph.all_of_sets) n.sets sets → Agree (set_of given) n.slice slice → HaveSubpicture n (at_place n sets slice ids layout) (number fields sh_subpic_id)
+    → Agree ph.all_of_sets n.sets sets → Agree given n.slice slice → HaveSubpicture n (at_place n sets slice ids layout) (number fields sh_subpic_id)
     → IsThere n (at_place n sets slice ids layout) fields inside f
 unfolding goes_together at_place fresh known_1 known_2 known_3 behind_header subpic_form subpic_id_form slice_form
 is_there n sets slice ids layout fields inside f size agree_sets agree have =
@@ -319,7 +318,7 @@ Found n m rbsp header size = (other : SliceHeader) × BeginsSlice m rbsp other s
     × (other.subpic ≡ index_of (number header.fields sh_subpic_id) m.ids)
 
 read_there : (n : At) (sets slice ids : List ℕ) (layout : Numbers) (rbsp : List ℕ) (header : SliceHeader) (size : ℕ) → length n.slice ≡ 1024
-    → Agree (set_of ph.all_of_sets) n.sets sets → Agree (set_of given) n.slice slice → HaveSubpicture n (at_place n sets slice ids layout) (number header.fields sh_subpic_id)
+    → Agree ph.all_of_sets n.sets sets → Agree given n.slice slice → HaveSubpicture n (at_place n sets slice ids layout) (number header.fields sh_subpic_id)
     → BeginsSlice n rbsp header size → Found n (at_place n sets slice ids layout) rbsp header size
 unfolding fresh at_place
 read_there n sets slice ids layout rbsp header size long agree_sets agree have begins =
@@ -330,7 +329,7 @@ read_there n sets slice ids layout rbsp header size long agree_sets agree have b
     let told = numbers_are_told m header.fields begins.inside is.there (sym agree.size ∙ long) in
     let other : SliceHeader = record { inside = header.inside; fields = header.fields; subpic = index_of (number header.fields sh_subpic_id) ids; address = header.address; lists = header.lists } in
     let lists : lists_of n.table n.sets header.fields ≡ lists_of n.table sets header.fields
-    = lists_follow_items n.table (set_of ph.all_of_sets) n.sets sets (set_of rpl.ALL) header.fields header.fields agree_sets refl refl refl refl refl refl in
+    = lists_follow_items n.table ph.all_of_sets n.sets sets rpl.ALL header.fields header.fields agree_sets refl refl refl refl refl refl in
     let slice_there : BeginsSlice m rbsp other size = record {
       inside = begins.inside;
       fields = is.there;

@@ -8,7 +8,7 @@ use Rattle.vx_table.specs.declared.rows.Presence.TheVariants.{When}
 use Rattle.vx_table.specs.declared.rows.Row.{Row}
 use Rattle.vx_table.specs.declared.rows.Term.TheVariants.{Latest, Number}
 use Rattle.vx_table.specs.Claims.{hides_counter, hides_row}
-use Rattle.vx_table.specs.Depends.{Leaves, set_of}
+use Rattle.vx_table.specs.Depends.{Leaves}
 use Rattle.vx_table.specs.EachField.{EachField, rows_pass}
 use Rattle.vx_table.specs.Forms.{Form, done, ◌>>=◌, form_of, part, present}
 use Rattle.vx_table.specs.Parts.{Section, always, provided, sections_form}
@@ -42,7 +42,7 @@ use Rattle.vx_sh.proofs.Reshaping.{subpic_leaves}
 use Rattle.vx_sh.proofs.Told.{done_is}
 
 abbrev reads : List ℕ
-reads = set_of (sps_alf_enabled_flag ∷ pps_alf_info_in_ph_flag ∷ sps_chroma_format_idc ∷ sps_ccalf_enabled_flag ∷ [])
+reads = sps_alf_enabled_flag ∷ pps_alf_info_in_ph_flag ∷ sps_chroma_format_idc ∷ sps_ccalf_enabled_flag ∷ []
 
 -- a table that is always there
 abbrev once : List Row → List ℕ → Form (List ℕ)

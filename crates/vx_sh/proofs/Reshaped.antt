@@ -6,7 +6,6 @@ use Rattle.vx_table.specs.declared.rows.Formula.{Formula}
 use Rattle.vx_table.specs.declared.rows.Row.TheVariants.{Field}
 use Rattle.vx_table.specs.Scope.{fresh, is_set}
 use Rattle.vx_table.specs.Forms.{cell_at, has_value, one_field, part, form_of}
-use Rattle.vx_table.specs.Depends.{set_of}
 use Rattle.vx_table.specs.Loaded.{StaysBelow, code_below, number, range_below, row_below}
 use Rattle.vx_table.specs.Rewritten.{IsRewritten, other_items}
 use Rattle.vx_table.proofs.Joined.{items_joined, joined}
@@ -111,7 +110,7 @@ module _ (source : SliceHeader) (shape : ShShape) (n : SliceNumbers) (is : IsSha
 
   -- its items by their stars
   pub starred_ones : (items : List Item) → AreReshapedInSliceHeader source.fields shape n items
-      → IsRewritten (apart_form (in_force_at n).table (in_force_at n).ids (in_force_at n).layout (in_force_at n).slice) (set_of STARRED) (stated_sh_items n shape) (other_items (set_of STARRED) source.fields) items
+      → IsRewritten (apart_form (in_force_at n).table (in_force_at n).ids (in_force_at n).layout (in_force_at n).slice) STARRED (stated_sh_items n shape) (other_items STARRED source.fields) items
   unfolding apart_form
   starred_ones items re =
       let m = in_force_at n in
@@ -134,13 +133,13 @@ module _ (source : SliceHeader) (shape : ShShape) (n : SliceNumbers) (is : IsSha
   lists_are : (items : List Item) → AreReshapedInSliceHeader source.fields shape n items → lists_of (structures n.sps.now) (in_force n.sps.now n.pps.now) items ≡ source.lists
   unfolding fresh
   lists_are items re =
-      sym ((agree_on_kept goes.sps goes.pps n.sps.now n.pps.now goes.same).lists (set_of kept_fields) source.fields items refl (sym re.kept)) ∙ sym goes.numbers.lists
+      sym ((agree_on_kept goes.sps goes.pps n.sps.now n.pps.now goes.same).lists kept_fields source.fields items refl (sym re.kept)) ∙ sym goes.numbers.lists
 
   address_is : (items : List Item) → AreReshapedInSliceHeader source.fields shape n items → source.address ≡ number items sh_slice_address
   unfolding fresh
   address_is items re =
       goes.numbers.address ∙ (numbers_are_told (at_sets n.nal_type goes.sps goes.pps goes.header goes.ids goes.layout) source.fields goes.inside goes.fields whole).address
-      ∙ number_of_shown (set_of kept_fields) sh_slice_address source.fields refl ∙ ap (λ xs. number xs sh_slice_address) (sym re.kept) ∙ sym (number_of_shown (set_of kept_fields) sh_slice_address items refl)
+      ∙ number_of_shown kept_fields sh_slice_address source.fields refl ∙ ap (λ xs. number xs sh_slice_address) (sym re.kept) ∙ sym (number_of_shown kept_fields sh_slice_address items refl)
 
   pub is_reshaped : (h : SliceHeader) → AreReshapedInSliceHeader source.fields shape n h.fields → h.inside ≡ false → h.subpic ≡ index_of shape.subpic_id n.ids.now → h.address ≡ source.address
       → h.lists ≡ lists_of (structures n.sps.now) (in_force n.sps.now n.pps.now) h.fields → IsReshapedSliceHeader source shape n h

@@ -18,7 +18,7 @@ use Rattle.vx_table.specs.Parts.{sections_form}
 use Rattle.vx_table.specs.Spelling.{items_along}
 use Rattle.vx_table.specs.Values.{Follows, to_end}
 use Rattle.vx_table.specs.Claims.{hides_counter, hides_row}
-use Rattle.vx_table.specs.Depends.{Agree, Leaves, has, set_of}
+use Rattle.vx_table.specs.Depends.{Agree, Leaves, has}
 use Rattle.vx_table.specs.Loaded.{number}
 use Rattle.vx_table.specs.Rewritten.{IsRewritten, other_items}
 use Rattle.vx_table.specs.Rewrites.{Takes}
@@ -65,13 +65,13 @@ fields_alike p q first pass n fields inside f =
     ap (λ xs. of_fields p xs) f.all ∙ filter-append (λ item. p item.field) a b ∙ rw (one, two) refl ∙ sym (filter-append (λ item. q item.field) a b) ∙ ap (λ xs. of_fields q xs) (sym f.all)
 
 abbrev in_kept : ℕ → Bool
-in_kept n = has (set_of kept_fields) n
+in_kept n = has kept_fields n
 
 abbrev in_given : ℕ → Bool
 in_given n = has kept n
 
 abbrev in_starred : ℕ → Bool
-in_starred n = has (set_of STARRED) n
+in_starred n = has STARRED n
 
 module _ (n : At) (fields : List Item) (inside : List ℤ) (f : AreFields n fields inside) where
   -- kept are all but those with a star
@@ -103,7 +103,7 @@ module _ (table : RplTable) (points : ℕ → ℕ) (s : List ℕ) {w : List ℤ}
 -- ---- what stands before the part behind the id
 
 unfoldable pub kept_there : List ℕ
-kept_there = set_of kept_in_force
+kept_there = kept_in_force
 
 first_leaves : Leaves kept_there (form_of HEADER_INSIDE)
 unfolding fresh hides_counter hides_row kept_there
@@ -124,7 +124,7 @@ abbrev of_starred : List ℕ
 of_starred = sps_subpic_info_present_flag ∷ sps_subpic_id_len_minus1 ∷ pps_alf_info_in_ph_flag ∷ pps_qp_delta_info_in_ph_flag ∷ ph_lmcs_enabled_flag ∷ ph_explicit_scaling_list_enabled_flag ∷ []
 
 starred_read : List ℕ
-starred_read = set_of of_starred
+starred_read = of_starred
 
 starred_left_first : Leaves starred_read (form_of HEADER_INSIDE)
 unfolding fresh hides_counter hides_row starred_read
@@ -148,7 +148,7 @@ slices_is ids layout s size =
     get_or-set_at second NUM_SLICES NUM_SLICES (num_slices_in_subpic layout i) 0 refl (omega (arith, length-set first SUBPIC i, length-set s NUM_SUBPICS (length ids), size))
 
 abbrev two : List ℕ
-two = set_of (SUBPIC ∷ NUM_SLICES ∷ [])
+two = SUBPIC ∷ NUM_SLICES ∷ []
 
 known_leaves_two : Leaves two (form_of KNOWN_SUBPIC)
 unfolding fresh hides_counter hides_row
@@ -181,7 +181,7 @@ record Source (p : At) (fields : List Item) : Type 0 where
   agree : Agree kept_there p.slice mid
   subpic : slice_index mid SUBPIC ≡ index_of (number fields sh_subpic_id) p.ids
   slices : slice_index mid NUM_SLICES ≡ num_slices_in_subpic p.layout (index_of (number fields sh_subpic_id) p.ids)
-  kept_ones : shown_items (set_of kept_fields) fields ≡ shown_items (set_of kept_fields) (items_along (there p.table p.layout mid) values)
+  kept_ones : shown_items kept_fields fields ≡ shown_items kept_fields (items_along (there p.table p.layout mid) values)
 
 source_of : (p : At) (fields : List Item) (inside : List ℤ) (f : AreFields p fields inside) → length p.slice ≡ 1024 → Source p fields
 unfolding behind_header subpic_form subpic_id_form fresh hides_row hides_counter
@@ -195,7 +195,7 @@ source_of p fields inside f size =
     let mid_size : length i.mid ≡ 1024 = sym (id_size f.at i.front i.mid i.first) ∙ at_size in
     let same : located p.ids p.layout i.mid ≡ k.mid = done_is i.second in
     let id = id_is p fields inside f size b k i in
-    let set = set_of kept_fields in
+    let set = kept_fields in
     let a = items_along (form_of HEADER_INSIDE p.slice) f.first in
     let c = items_along (subpic_form p.ids p.layout f.at) b.front in
     let d = items_along (form b.mid) b.others in
@@ -287,8 +287,8 @@ pub record Made (n : At) (source : List Item) (id : ℕ) (others items : List It
   pub fields : AreFields n items []
   pub apart : number items sh_picture_header_in_slice_header_flag ≡ 0
   pub id_told : number items sh_subpic_id ≡ id
-  pub kept_ones : shown_items (set_of kept_fields) items ≡ shown_items (set_of kept_fields) source
-  pub other_ones : other_items (set_of kept_fields) items ≡ others
+  pub kept_ones : shown_items kept_fields items ≡ shown_items kept_fields source
+  pub other_ones : other_items kept_fields items ≡ others
 
 module _ (p n : At) (source : List Item) (inside : List ℤ) (f : AreFields p source inside) (size : length p.slice ≡ 1024) (long : length n.slice ≡ 1024) (agree : Agree kept_there p.slice n.slice) (tables : p.table ≡ n.table)
     (id : ℕ) (known : index_of id n.ids < length n.ids) (same : HaveSameSlices p.layout (index_of (number source sh_subpic_id) p.ids) n.layout (index_of id n.ids))
@@ -327,7 +327,7 @@ module _ (p n : At) (source : List Item) (inside : List ℤ) (f : AreFields p so
     | inr there_ ↦ between.same k there_
   ]
 
-  given_agree : Agree (set_of kept_given) src.mid tgt.mid
+  given_agree : Agree kept_given src.mid tgt.mid
   given_agree = record {
     size = between.size;
     same = λ k is. named (λ m. slice_index src.mid m ≡ slice_index tgt.mid m) kept_given k (all_pass known_given (λ m. slice_index src.mid m ≡ slice_index tgt.mid m) at_number kept_given all_given) is;
@@ -421,7 +421,7 @@ module _ (p n : At) (source : List Item) (inside : List ℤ) (f : AreFields p so
   unfolding fresh natural hides_row hides_counter points id_part used
   made_there =
       let r = rest.1 in
-      let set = set_of kept_fields in
+      let set = kept_fields in
       let first : Item = item sh_picture_header_in_slice_header_flag 0 in
       let behind_first : shown_items only_inside (id_part ++ rest.0) ≡ []
       = filter-append (λ x. has only_inside x.field) id_part rest.0 ∙ rw (id_hidden only_inside refl, r.all) (rest_hidden only_inside n.table points tgt.mid

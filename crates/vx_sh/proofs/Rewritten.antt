@@ -9,7 +9,7 @@ use Rattle.vx_table.specs.Scope.{fresh}
 use Rattle.vx_table.specs.Forms.{done, ◌>>=◌, has_value, form_of}
 use Rattle.vx_table.specs.Parts.{Section, always, sections_form}
 use Rattle.vx_table.specs.Spelling.{items_along}
-use Rattle.vx_table.specs.Depends.{has, with_all, set_of}
+use Rattle.vx_table.specs.Depends.{has}
 use Rattle.vx_table.specs.Claims.{knows_formula, knows_width, knows_range, knows_presence, hides_counter, hides_row, behind_field, within_block, depends, table_depends, behind_rows, behind_table, comes_always, behind_sections}
 use Rattle.vx_table.specs.laws.Again.{shows_row}
 use Rattle.vx_table.specs.Rewrites.{Takes}
@@ -38,10 +38,10 @@ slices_read_again table points s t old new items after result agree reads =
 
 -- what the uses and the QP read
 abbrev uses_read : List ℕ
-uses_read = set_of (sps_chroma_format_idc ∷ sps_alf_enabled_flag ∷ sps_ccalf_enabled_flag ∷ starred_given)
+uses_read = sps_chroma_format_idc ∷ sps_alf_enabled_flag ∷ sps_ccalf_enabled_flag ∷ starred_given
 
 abbrev uses_shown : List ℕ
-uses_shown = with_all uses_read starred_fields
+uses_shown = uses_read ++ starred_fields
 
 -- ---- the parts
 

@@ -6,7 +6,7 @@ use Rattle.std.proofs.lemmas.List.{get_or-set_other}
 use Rattle.vx_bits.specs.declared.list.Item.{Item}
 use Rattle.vx_fields.specs.declared.names.rpl.TheConstants.{ENTRIES_0, ENTRIES_1}
 use Rattle.vx_fields.specs.declared.names.sh.TheConstants.{NAL_TYPE, EXTRA_SH_BITS, DEFAULT_ACTIVE_0, DEFAULT_ACTIVE_1}
-use Rattle.vx_table.specs.Depends.{has, set_of}
+use Rattle.vx_table.specs.Depends.{has}
 use Rattle.vx_table.specs.Loaded.{number}
 use Rattle.vx_table.specs.Scope.{fresh}
 use Rattle.vx_table.proofs.Loading.{number_of_shown}
@@ -23,19 +23,19 @@ use Rattle.vx_sh.proofs.Scopes.{header_from_header, header_from_pps, header_from
 
 -- kept fields of a picture header, what stands beside, and what is neither
 abbrev of_header : ℕ → Bool
-of_header n = nat_lt n 600 || (has (set_of beside) n || has (set_of ph.kept_ph_fields) n)
+of_header n = nat_lt n 600 || (has beside n || has ph.kept_ph_fields n)
 
 all_are : (passes of_sps kept_in_force ≡ true) × (passes of_pps kept_in_force ≡ true) × (passes of_header kept_in_force ≡ true)
 unfolding fresh
 all_are = (refl, refl, refl)
 
-header_number : (header other : PictureHeader) → AreSameForSlices header other → (n : ℕ) → of_header n ≡ true → 600 ≤ n → IsFalse (has (set_of beside) n)
+header_number : (header other : PictureHeader) → AreSameForSlices header other → (n : ℕ) → of_header n ≡ true → 600 ≤ n → IsFalse (has beside n)
     → number header.fields n ≡ number other.fields n
-header_number header other same n pass from out = elim (or_cases (nat_lt n 600) (has (set_of beside) n || has (set_of ph.kept_ph_fields) n) pass) [
+header_number header other same n pass from out = elim (or_cases (nat_lt n 600) (has beside n || has ph.kept_ph_fields n) pass) [
   | inl low ↦ absurd (omega (arith, from, ltb-true n 600 low))
-  | inr some ↦ elim (or_cases (has (set_of beside) n) (has (set_of ph.kept_ph_fields) n) some) [
+  | inr some ↦ elim (or_cases (has beside n) (has ph.kept_ph_fields n) some) [
     | inl is_beside ↦ absurd (both_ways _ out is_beside)
-    | inr is ↦ number_of_shown (set_of ph.kept_ph_fields) n header.fields is ∙ ap (λ xs. number xs n) (sym same.fields) ∙ sym (number_of_shown (set_of ph.kept_ph_fields) n other.fields is)
+    | inr is ↦ number_of_shown ph.kept_ph_fields n header.fields is ∙ ap (λ xs. number xs n) (sym same.fields) ∙ sym (number_of_shown ph.kept_ph_fields n other.fields is)
   ]
 ]
 
@@ -44,7 +44,7 @@ slices_agree_on_kept nal_type sps pps other_sps other_pps header other same same
     slice_scopes_agree kept_in_force nal_type sps other_sps pps other_pps header other
     (all_pass of_sps (λ n. n < 400 → number sps n ≡ number other_sps n) (sps_numbers sps pps other_sps other_pps same) kept_in_force all_are.0)
     (all_pass of_pps (λ n. 400 ≤ n → n < 600 → number pps n ≡ number other_pps n) (pps_numbers sps pps other_sps other_pps same) kept_in_force all_are.1)
-    (all_pass of_header (λ n. 600 ≤ n → IsFalse (has (set_of beside) n) → number header.fields n ≡ number other.fields n) (header_number header other same_header) kept_in_force all_are.2)
+    (all_pass of_header (λ n. 600 ≤ n → IsFalse (has beside n) → number header.fields n ≡ number other.fields n) (header_number header other same_header) kept_in_force all_are.2)
     (extra_sh sps pps other_sps other_pps same) (active sps pps other_sps other_pps same 0) (active sps pps other_sps other_pps same 1) (sym same_header.first) (sym same_header.second)
 
 -- ---- the numbers of fields in the scope of a slice

@@ -7,7 +7,7 @@ use Rattle.std.proofs.lemmas.List.{get_or-set_other, get_or_past, length-set, se
 use Rattle.std.proofs.lemmas.List.Elements.{All-nil, All-cons}
 use Rattle.vx_bits.specs.declared.list.Item.{Item}
 use Rattle.vx_table.specs.Scope.{fresh, loaded, joined}
-use Rattle.vx_table.specs.Depends.{has, set_of}
+use Rattle.vx_table.specs.Depends.{has}
 use Rattle.vx_table.specs.Loaded.{number}
 use Rattle.vx_fields.specs.declared.names.rpl.TheConstants.{ENTRIES_0, ENTRIES_1}
 use Rattle.vx_fields.specs.declared.names.sh.TheConstants.{NAL_TYPE, EXTRA_SH_BITS, DEFAULT_ACTIVE_0, DEFAULT_ACTIVE_1}
@@ -66,8 +66,8 @@ put {P} {s} {t} n v w is both = rw is record {
 }
 
 -- a number that is none of them
-is_field : (n : ℕ) → n ≢ ENTRIES_0 → n ≢ ENTRIES_1 → n ≢ NAL_TYPE → n ≢ EXTRA_SH_BITS → n ≢ DEFAULT_ACTIVE_0 → n ≢ DEFAULT_ACTIVE_1 → IsFalse (has (set_of beside) n)
-is_field n a b c d e f = elim (cases_Bool (has (set_of beside) n)) [
+is_field : (n : ℕ) → n ≢ ENTRIES_0 → n ≢ ENTRIES_1 → n ≢ NAL_TYPE → n ≢ EXTRA_SH_BITS → n ≢ DEFAULT_ACTIVE_0 → n ≢ DEFAULT_ACTIVE_1 → IsFalse (has beside n)
+is_field n a b c d e f = elim (cases_Bool (has beside n)) [
   | inl is ↦
       let P : ℕ → Type 0 = λ m. n ≢ m in
       let last : All P (DEFAULT_ACTIVE_1 ∷ []) = All-cons P DEFAULT_ACTIVE_1 [] f (All-nil P) in
@@ -83,7 +83,7 @@ is_field n a b c d e f = elim (cases_Bool (has (set_of beside) n)) [
 pub slice_scopes_agree : SliceScopesAgree
 unfolding with_header
 slice_scopes_agree fields nal_type sps other_sps pps other_pps header other same_sps same_pps same_header extra first_default second_default first second =
-    let is = put {P = λ n. IsTrue (has (set_of fields) n)} DEFAULT_ACTIVE_1 (default_active pps 1) (default_active other_pps 1) second_default
+    let is = put {P = λ n. IsTrue (has fields n)} DEFAULT_ACTIVE_1 (default_active pps 1) (default_active other_pps 1) second_default
     (put DEFAULT_ACTIVE_0 (default_active pps 0) (default_active other_pps 0) first_default
     (put EXTRA_SH_BITS (extra_sh_bits_of sps) (extra_sh_bits_of other_sps) extra
     (put NAL_TYPE nal_type nal_type refl
@@ -101,7 +101,7 @@ slice_scopes_agree fields nal_type sps other_sps pps other_pps header other same
                   ∙ named (λ m. pps_pic_parameter_set_id ≤ m → m < ph_gdr_or_irap_pic_flag → number pps m ≡ number other_pps m) fields n same_pps there past below
                   ∙ sym (header_from_pps other_sps other_pps other.fields n past below)
               | inr behind ↦ header_from_header sps pps header.fields n behind
-                  ∙ named (λ m. ph_gdr_or_irap_pic_flag ≤ m → IsFalse (has (set_of beside) m) → number header.fields m ≡ number other.fields m) fields n same_header there behind (is_field n a b c d e f)
+                  ∙ named (λ m. ph_gdr_or_irap_pic_flag ≤ m → IsFalse (has beside m) → number header.fields m ≡ number other.fields m) fields n same_header there behind (is_field n a b c d e f)
                   ∙ sym (header_from_header other_sps other_pps other.fields n behind)
             ]
           ];

@@ -7,7 +7,6 @@ use Rattle.vx_table.specs.declared.writer.SpellError.{SpellError}
 use Rattle.vx_table.specs.declared.writer.SpellError.TheVariants as errors
 use Rattle.vx_table.specs.Forms.{Form, done, field, form_of}
 use Rattle.vx_table.specs.laws.Trailing.{EndsWithStop}
-use Rattle.vx_table.specs.Depends.{set_of}
 use Rattle.vx_table.specs.Rewritten.{other_items, Sources}
 use Rattle.vx_table.specs.Sent.{SendsField}
 use Rattle.vx_table.specs.Walks.{Walks, leaving}
@@ -54,21 +53,21 @@ apart_bits n items f =
 -- ---- what is sent
 
 -- what the walk of a sender of all items writes
-pub sent_apart : (n : SliceNumbers) {sets slice starred : List ℕ} (are : AreScopes n sets slice starred) (stated_ones source : List Item) {table : RplTable} {old new : Sources} {before after : List Bool} {shown all : List Item}
+pub sent_apart : (n : SliceNumbers) {sets slice : List ℕ} (are : AreScopes n sets slice) (stated_ones source : List Item) {table : RplTable} {old new : Sources} {before after : List Bool} {shown all : List Item}
     {k m : ℕ} (scope : List ℕ) (result : Result (Unit {0}) SpellError) → table ≡ structures n.sps.now → k ≡ length stated_ones → shown ≡ take (k - 0) (drop 0 stated_ones) → m ≡ length source → all ≡ take (m - 0) (drop 0 source)
-    → old ≡ record { names = starred; shown = shown; others = other_items starred all } → before ≡ [] → Walks SendsField (apart_form table n.ids.now n.layout.now slice) old before (leaving scope result) new after
+    → old ≡ record { names = STARRED; shown = shown; others = other_items STARRED all } → before ≡ [] → Walks SendsField (apart_form table n.ids.now n.layout.now slice) old before (leaving scope result) new after
     → SendsApart (in_force_at n) stated_ones source result after
-sent_apart n {slice} {starred} are stated_ones source {table} {old} {new} {before} {after} {shown} {all} {k} {m} scope result at_table size first count second whole none walk items is =
+sent_apart n {slice} are stated_ones source {table} {old} {new} {before} {after} {shown} {all} {k} {m} scope result at_table size first count second whole none walk items is =
     let at = in_force_at n in
     let shown_are : shown ≡ stated_ones = first ∙ from_all k stated_ones size in
     let all_are : all ≡ source = second ∙ from_all m source count in
     let at_slice : slice ≡ at.slice = are.slice_is ∙ ap (λ s. slice_scope n.nal_type n.sps.now n.pps.now n.header.now s) are.sets_are in
-    let from : old ≡ record { names = set_of STARRED; shown = stated_ones; others = other_items (set_of STARRED) source } = whole ∙ rw (are.starred_are, shown_are, all_are) refl in
+    let from : old ≡ record { names = STARRED; shown = stated_ones; others = other_items STARRED source } = whole ∙ rw (shown_are, all_are) refl in
     let one = subst (λ t. Walks SendsField (apart_form t n.ids.now n.layout.now slice) old before (leaving scope result) new after) at_table walk in
     let two = subst (λ s. Walks SendsField (apart_form at.table n.ids.now n.layout.now s) old before (leaving scope result) new after) at_slice one in
     let three = subst (λ xs. Walks SendsField (apart_form at.table at.ids at.layout at.slice) old xs (leaving scope result) new after) none two in
     let four = subst (λ x. Walks SendsField (apart_form at.table at.ids at.layout at.slice) x [] (leaving scope result) new after) from three in
-    sends_rewritten (apart_form at.table at.ids at.layout at.slice) (record { names = set_of STARRED; shown = stated_ones; others = other_items (set_of STARRED) source }) new items after scope result four is
+    sends_rewritten (apart_form at.table at.ids at.layout at.slice) (record { names = STARRED; shown = stated_ones; others = other_items STARRED source }) new items after scope result four is
 
 weaker : {B P Q : Type 0} (result : Result B SpellError) → (P → Q) → IsWritten result P → IsWritten result Q
 weaker (Ok b) f p = f p

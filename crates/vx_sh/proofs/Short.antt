@@ -8,7 +8,7 @@ use Rattle.vx_table.specs.declared.rows.Formula.TheVariants.{Plain}
 use Rattle.vx_table.specs.declared.rows.Presence.TheVariants.{When}
 use Rattle.vx_table.specs.declared.rows.Term.TheVariants.{Latest}
 use Rattle.vx_table.specs.Claims.{hides_counter, hides_row}
-use Rattle.vx_table.specs.Depends.{Agree, IsLeft, set_of}
+use Rattle.vx_table.specs.Depends.{Agree, IsLeft}
 use Rattle.vx_table.specs.Forms.{Form, done, ◌>>=◌, form_of, has_value}
 use Rattle.vx_table.specs.Parts.{sections_form}
 use Rattle.vx_table.specs.Scope.{fresh, loaded, most}
@@ -101,7 +101,7 @@ there_few table points s first second few long within =
 
 -- what the number of entry points depends on
 abbrev flags : List ℕ
-flags = set_of (sps_entropy_coding_sync_enabled_flag ∷ sps_entry_point_offsets_present_flag ∷ [])
+flags = sps_entropy_coding_sync_enabled_flag ∷ sps_entry_point_offsets_present_flag ∷ []
 
 -- a part keeps the bounds, and leaves these alone
 record Goes (s t : List ℕ) : Type 0 where

@@ -15,7 +15,7 @@ use Rattle.vx_table.specs.declared.rows.Row.{Row}
 use Rattle.vx_table.specs.Parts.{always, provided, sections_form}
 use Rattle.vx_table.specs.Spelling.{HasCode, fault_of, item_of, items_along}
 use Rattle.vx_table.specs.Values.{Follows, to_end, through}
-use Rattle.vx_table.specs.Depends.{Agree, Leaves, set_of, with_all}
+use Rattle.vx_table.specs.Depends.{Agree, Leaves}
 use Rattle.vx_table.specs.Claims.{behind_field, behind_rows, behind_table, depends, hides_counter, hides_row, knows_formula, knows_presence, knows_range, knows_width, table_depends, within_block}
 use Rattle.vx_table.specs.Named.{named_by}
 use Rattle.vx_table.specs.laws.Again.{shows_row}
@@ -155,7 +155,7 @@ abbrev of_uses : List ℕ
 of_uses = ph_lmcs_enabled_flag ∷ ph_explicit_scaling_list_enabled_flag ∷ sh_picture_header_in_slice_header_flag ∷ []
 
 small_agrees : (t : List ℕ) → length t ≡ 1024 → slice_index t sh_picture_header_in_slice_header_flag ≡ 0
-    → Agree (set_of of_uses) (small (slice_index t ph_lmcs_enabled_flag) (slice_index t ph_explicit_scaling_list_enabled_flag)) t
+    → Agree of_uses (small (slice_index t ph_lmcs_enabled_flag) (slice_index t ph_explicit_scaling_list_enabled_flag)) t
 unfolding small fresh
 small_agrees t size apart = agree_given of_uses (sym size) (refl, (refl, (sym apart, tt)))
 
@@ -165,11 +165,11 @@ unfolding fresh has_value knows_formula knows_width knows_range knows_presence h
 uses_take t lmcs scaling size apart low_l low_k =
     let l = slice_index t ph_lmcs_enabled_flag in
     let k = slice_index t ph_explicit_scaling_list_enabled_flag in
-    let shown : List ℕ = with_all (set_of of_uses) (named_by LMCS_AND_SCALING) in
-    let carries = table_carries shown (set_of of_uses) LMCS_AND_SCALING refl in
+    let shown : List ℕ = of_uses ++ named_by LMCS_AND_SCALING in
+    let carries = table_carries shown of_uses LMCS_AND_SCALING refl in
     let all = tables_show shown LMCS_AND_SCALING refl in
     takes_again shown _ (form_of LMCS_AND_SCALING (small l k)) (form_of LMCS_AND_SCALING t) (said l k lmcs scaling)
-    (carries.alike (inside_with_all (set_of of_uses) (named_by LMCS_AND_SCALING)) (small l k) t (small_agrees t size apart)) (all.at (small l k)) (all.at t) (small_takes l k lmcs scaling low_l low_k)
+    (carries.alike (inside_with_all of_uses (named_by LMCS_AND_SCALING)) (small l k) t (small_agrees t size apart)) (all.at (small l k)) (all.at t) (small_takes l k lmcs scaling low_l low_k)
 
 filter_if : List ℕ → Form (List ℕ)
 filter_if = present (When (Plain (Latest HAS_ALF))) (form_of ALF)
@@ -181,9 +181,9 @@ filter_takes t filter takes = elim (cases_Bool (slice_index t HAS_ALF == 0)) [
   | inr some ↦ rw some (takes (ap not some))
 ]
 
-filter_leaves : Leaves (set_of of_uses) filter_if
+filter_leaves : Leaves of_uses filter_if
 unfolding filter_if fresh hides_counter hides_row
-filter_leaves = leaves_present (set_of of_uses) (Plain (Latest HAS_ALF)) (form_of ALF) (tables_leave (set_of of_uses) ALF refl)
+filter_leaves = leaves_present of_uses (Plain (Latest HAS_ALF)) (form_of ALF) (tables_leave of_uses ALF refl)
 
 one_table : (t : List ℕ) (items : List Item) → Takes (form_of LMCS_AND_SCALING t) items → Takes (sections_form (always LMCS_AND_SCALING ∷ []) t) items
 unfolding sections_form present value
@@ -208,7 +208,7 @@ module _ (s t : List ℕ) (filter : List Item) (lmcs scaling : Bool) (size : len
       (filter_takes u filter (λ is. filter_again s u filter (other ∙ sym (length-set t HAS_ALF has_filter ∙ size)) (chroma ∙ sym (in_u sps_chroma_format_idc (omega arith))) (cross ∙ sym (in_u sps_ccalf_enabled_flag (omega arith)))
       (takes (ap is_set (sym named) ∙ is)))) in
       let v = second.end in
-      let left = leaves_agree (set_of of_uses) filter_if u second.values v filter_leaves second.follows in
+      let left = leaves_agree of_uses filter_if u second.values v filter_leaves second.follows in
       let long : length v ≡ 1024 = sym left.size ∙ length-set t HAS_ALF has_filter ∙ size in
       let at_l : slice_index v ph_lmcs_enabled_flag ≡ slice_index t ph_lmcs_enabled_flag = sym (left.same ph_lmcs_enabled_flag refl) ∙ in_u ph_lmcs_enabled_flag (omega arith) in
       let at_k : slice_index v ph_explicit_scaling_list_enabled_flag ≡ slice_index t ph_explicit_scaling_list_enabled_flag

@@ -1,9 +1,9 @@
 -- The items of a slice header tell whether the picture header stands inside, the subpicture and the address.
 use Rattle.std.proofs.Common.{◌≡◌, inl, inr, ℕ, ℤ, pos, ◌<◌, nat_le, true, false, None, List, [], ◌∷◌, ◌++◌, length, drop, slice_index, slice_set, refl, ap, sym, subst, ◌∙◌, arith}
-use Rattle.std.specs.Prelude.{Bool, not, IsTrue, IsFalse, ◌==◌, replicate}
+use Rattle.std.specs.Prelude.{Bool, not, IsTrue, IsFalse, ◌==◌}
 use Rattle.std.proofs.lemmas.Bool.{both_ways, cases_Bool, cases_lt, le-leb, not-true}
 use Rattle.std.proofs.lemmas.Grind.{get_or-set_at}
-use Rattle.std.proofs.lemmas.List.{append-nil, length-set, length-replicate, get_or-replicate, get_or_past, get_or-set_other}
+use Rattle.std.proofs.lemmas.List.{append-nil, length-set, get_or-set_other}
 use Rattle.std.proofs.lemmas.List.Elements.{filter-append, All-nil}
 use Rattle.vx_bits.specs.declared.list.Item.{Item}
 use Rattle.vx_table.specs.declared.rows.Term.TheVariants.{Latest}
@@ -16,16 +16,17 @@ use Rattle.vx_table.specs.declared.rows.Row.{Row}
 use Rattle.vx_table.specs.declared.rows.Row.TheVariants.{Field, Block, Name}
 use Rattle.vx_table.specs.EachField.{EachField}
 use Rattle.vx_table.proofs.EachField.{each_of_rows}
-use Rattle.vx_table.specs.Scope.{fresh, is_set, natural, value}
+use Rattle.vx_table.specs.Scope.{fresh, natural, value}
 use Rattle.vx_table.specs.Forms.{Form, done, field, ◌>>=◌, has_value, cell_at, coding_at, limits_at, after, one_field, part, present, form_of}
 use Rattle.vx_table.specs.Parts.{sections_form}
 use Rattle.vx_table.specs.Spelling.{HasCode, fault_of, item_of, items_along}
 use Rattle.vx_table.specs.Values.{IsValueOf, Follows, to_end, through, Parted}
-use Rattle.vx_table.specs.Depends.{has, set_of, Inside, Agree, IsLeft, Leaves}
+use Rattle.vx_table.specs.Depends.{has, Inside, Agree, IsLeft, Leaves}
 use Rattle.vx_table.specs.Claims.{hides_counter, hides_row}
 use Rattle.vx_table.specs.Shown.{shown_items}
 use Rattle.vx_table.specs.Loaded.{number, names_none}
-use Rattle.vx_table.proofs.Agreeing.{agree_set, agree_on, agree_less, agree_outside, valued}
+use Rattle.vx_table.proofs.Groups.{agree_nothing}
+use Rattle.vx_table.proofs.Agreeing.{others_too, agree_set, agree_on, agree_less, agree_outside, valued}
 use Rattle.vx_table.proofs.Dependence.{inside_with_all}
 use Rattle.vx_table.proofs.Joined.{parted, items_joined}
 use Rattle.vx_table.proofs.Loading.{number_of_shown, number_of_last, tables_load}
@@ -63,27 +64,20 @@ in_second names of front here is none =
 
 -- ---- a field with a default of 0
 
-fresh_none : (n : ℕ) → slice_index fresh n ≡ 0
+nothing_agrees : (s : List ℕ) → length s ≡ 1024 → Agree [] s fresh
 unfolding fresh
-fresh_none n = elim (cases_lt n 1024) [
-  | inl within ↦ get_or-replicate 1024 n 0 0 within
-  | inr past ↦ get_or_past (replicate 1024 0) n 0 (omega (arith, length-replicate {A = ℕ} 1024 0, past))
-]
+nothing_agrees s size = agree_nothing s fresh size
 
-nothing_agrees : (s : List ℕ) → length s ≡ 1024 → Agree fresh s fresh
-unfolding fresh
-nothing_agrees s size = record { size = size; same = λ n h. absurd (let none : false ≡ true = ap is_set (sym (fresh_none n)) ∙ h in cc) }
-
-default_agrees : (s : List ℕ) (of : ℕ) → length s ≡ 1024 → slice_set fresh of 0 ≡ fresh → Agree (set_of (of ∷ [])) (slice_set s of 0) fresh
+default_agrees : (s : List ℕ) (of : ℕ) → length s ≡ 1024 → slice_set fresh of 0 ≡ fresh → Agree (of ∷ []) (slice_set s of 0) fresh
 default_agrees s of size same =
-    let both = agree_set of 0 (λ m is_not h. ap is_set (sym (get_or-set_other fresh of m 1 0 is_not)) ∙ h) (nothing_agrees s size) in
+    let both = agree_set {more = of ∷ []} of 0 (λ m is_not h. others_too [] of m is_not h) (nothing_agrees s size) in
     record { size = both.size ∙ ap length same; same = λ n h. both.same n h ∙ ap (λ t. slice_index t n) same }
 
 id_told : (s : List ℕ) (values : List ℤ) (end : List ℕ) → length s ≡ 1024 → Follows (form_of SUBPIC_ID s) values end
     → slice_index end sh_subpic_id ≡ number (items_along (form_of SUBPIC_ID s) values) sh_subpic_id
 unfolding fresh form_of part value names_none hides_counter
 id_told s values end size follows =
-    let names = set_of (sh_subpic_id ∷ []) in
+    let names = sh_subpic_id ∷ [] in
     let items = items_along (form_of SUBPIC_ID s) values in
     let loads = (tables_load names (drop 1 SUBPIC_ID) refl).at (slice_set s sh_subpic_id 0) values end follows in
     sym (loads.same sh_subpic_id refl) ∙ (scopes_follow_items names (slice_set s sh_subpic_id 0) fresh items items (default_agrees s sh_subpic_id size refl) refl).same sh_subpic_id refl
@@ -92,7 +86,7 @@ address_told : (s : List ℕ) (values : List ℤ) (end : List ℕ) → length s 
     → slice_index end sh_slice_address ≡ number (items_along (form_of ADDRESS s) values) sh_slice_address
 unfolding fresh form_of part value names_none hides_counter
 address_told s values end size follows =
-    let names = set_of (sh_slice_address ∷ []) in
+    let names = sh_slice_address ∷ [] in
     let items = items_along (form_of ADDRESS s) values in
     let loads = (tables_load names (drop 1 ADDRESS) refl).at (slice_set s sh_slice_address 0) values end follows in
     sym (loads.same sh_slice_address refl) ∙ (scopes_follow_items names (slice_set s sh_slice_address 0) fresh items items (default_agrees s sh_slice_address size refl) refl).same sh_slice_address refl
@@ -134,10 +128,10 @@ peel_on next leaves p =
 -- ---- behind the id
 
 abbrev pub three : List ℕ
-three = set_of (sh_picture_header_in_slice_header_flag ∷ sh_subpic_id ∷ SUBPIC ∷ [])
+three = sh_picture_header_in_slice_header_flag ∷ sh_subpic_id ∷ SUBPIC ∷ []
 
 abbrev four : List ℕ
-four = set_of (sh_picture_header_in_slice_header_flag ∷ sh_subpic_id ∷ SUBPIC ∷ sh_slice_address ∷ [])
+four = sh_picture_header_in_slice_header_flag ∷ sh_subpic_id ∷ SUBPIC ∷ sh_slice_address ∷ []
 
 points_leave : (points : ℕ → ℕ) → Leaves four (λ t. done (with_entry_points points t))
 unfolding fresh with_entry_points
@@ -199,7 +193,7 @@ there_leaves table layout = record { at = λ s. (rest_leaves table (points_of la
 
 -- the test of the subpicture has no item, and leaves the subpicture
 unfoldable pub only_subpic : List ℕ
-only_subpic = set_of (SUBPIC ∷ [])
+only_subpic = SUBPIC ∷ []
 
 abbrev IsGap : Cell ℕ → Type 0
 IsGap cell = has_value cell.coding ≡ false
@@ -267,20 +261,20 @@ known_below s w u on = elim (cases_lt (slice_index s SUBPIC) (slice_index s NUM_
 -- the scope keeps its size
 pub id_size : (s : List ℕ) (values : List ℤ) (end : List ℕ) → Follows (form_of SUBPIC_ID s) values end → length s ≡ length end
 unfolding fresh hides_row hides_counter
-id_size s values end follows = (left_end ((tables_leave (set_of (sh_slice_address ∷ [])) SUBPIC_ID refl).at s) follows).size
+id_size s values end follows = (left_end ((tables_leave (sh_slice_address ∷ []) SUBPIC_ID refl).at s) follows).size
 
 pub inside_size : (s : List ℕ) (values : List ℤ) (end : List ℕ) → Follows (form_of HEADER_INSIDE s) values end → length s ≡ length end
 unfolding fresh hides_row hides_counter
-inside_size s values end follows = (left_end ((tables_leave (set_of (sh_slice_address ∷ [])) HEADER_INSIDE refl).at s) follows).size
+inside_size s values end follows = (left_end ((tables_leave (sh_slice_address ∷ []) HEADER_INSIDE refl).at s) follows).size
 
 abbrev only_address : List ℕ
-only_address = set_of (sh_slice_address ∷ [])
+only_address = sh_slice_address ∷ []
 
 abbrev pub only_id : List ℕ
-only_id = set_of (sh_subpic_id ∷ [])
+only_id = sh_subpic_id ∷ []
 
 abbrev pub only_inside : List ℕ
-only_inside = set_of (sh_picture_header_in_slice_header_flag ∷ [])
+only_inside = sh_picture_header_in_slice_header_flag ∷ []
 
 pub located_leaves : (names : List ℕ) (ids : List ℕ) (layout : Numbers) → IsFalse (has names NUM_SUBPICS) → IsFalse (has names SUBPIC) → IsFalse (has names NUM_SLICES)
     → Leaves names (λ t. done (located ids layout t))

@@ -1,6 +1,6 @@
 -- What the fields of a slice header behind the id of its subpicture depend on. Our own.
 use Rattle.std.specs.Prelude.{ℕ, not, List, [], ◌∷◌, ◌++◌, filter}
-use Rattle.vx_table.specs.Depends.{has, with_all, set_of, DependsOnlyOn}
+use Rattle.vx_table.specs.Depends.{has, DependsOnlyOn}
 use Rattle.vx_table.specs.laws.Again.{AlwaysShown}
 use Rattle.vx_table.specs.Parts.{Section, always}
 use Rattle.vx_table.specs.Shown.{KeepsOnly}
@@ -85,7 +85,7 @@ starred_fields = FILTER_SET ∷ HAS_ALF ∷ STARRED
 
 -- the others: the kept fields, with the names that their rows use
 abbrev pub kept_with_names : List ℕ
-kept_with_names = filter (λ n. not (has (set_of starred_fields) n)) all_fields
+kept_with_names = filter (λ n. not (has starred_fields n)) all_fields
 
 -- ---- the law
 
@@ -100,7 +100,7 @@ AllDepend = (table : RplTable) (points : ℕ → ℕ) → DependsOnlyOn all_give
 
 -- These are all fields; and a field has a star in each of its rows, or in none.
 abbrev pub AllAreShown : Type 0
-AllAreShown = (table : RplTable) (points : ℕ → ℕ) → AlwaysShown (with_all (set_of all_given) all_fields) (rest_form table points)
+AllAreShown = (table : RplTable) (points : ℕ → ℕ) → AlwaysShown (all_given ++ all_fields) (rest_form table points)
 
 abbrev pub KeptAreShown : Type 0
 KeptAreShown = (table : RplTable) (points : ℕ → ℕ) → KeepsOnly kept_given kept_fields (rest_form table points)

@@ -1,7 +1,7 @@
 -- The same slice header at another place: under sets, a picture header and a layout that agree on what it depends on, where its
 -- subpicture may have another index among others.
 use Rattle.std.specs.Prelude.{◌≡◌, ℕ, ◌<◌, Bool, not, List, [], ◌∷◌, filter, length}
-use Rattle.vx_table.specs.Depends.{has, set_of, Agree}
+use Rattle.vx_table.specs.Depends.{has, Agree}
 use Rattle.vx_table.specs.Loaded.{number}
 use Rattle.vx_fields.specs.declared.names.sh.TheConstants.{NUM_SLICES}
 use Rattle.vx_fields.specs.declared.sh.TheConstants.{sh_picture_header_in_slice_header_flag, sh_subpic_id}
@@ -15,7 +15,7 @@ use Rattle.vx_sh.specs.Value.{BeginsSlice}
 
 -- what all fields behind the id depend on, but for what the slice header itself tells before them,
 abbrev pub given_behind : List ℕ
-given_behind = filter (λ n. not (has (set_of (NUM_SLICES ∷ sh_picture_header_in_slice_header_flag ∷ [])) n)) all_given
+given_behind = filter (λ n. not (has (NUM_SLICES ∷ sh_picture_header_in_slice_header_flag ∷ []) n)) all_given
 
 -- and what the id and the entry points depend on: all that a slice header reads of the sets and of the picture header in force
 abbrev pub given : List ℕ
@@ -33,8 +33,8 @@ pub record HaveSubpicture (n m : At) (id : ℕ) : Type 0 where
 -- on what a slice header does, and on the subpicture.
 pub record AgreeAt (n m : At) (id : ℕ) : Type 0 where
   pub table : n.table ≡ m.table
-  pub sets : Agree (set_of all_of_sets) n.sets m.sets
-  pub slice : Agree (set_of given) n.slice m.slice
+  pub sets : Agree all_of_sets n.sets m.sets
+  pub slice : Agree given n.slice m.slice
   pub subpic : HaveSubpicture n m id
 
 -- The headers are the same but for the index of the subpicture.

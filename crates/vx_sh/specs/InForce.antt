@@ -2,7 +2,7 @@
 use Rattle.std.specs.Prelude.{◌≡◌, ◌≤◌, ◌<◌, ℕ, IsFalse, List, [], ◌∷◌, All, length, slice_set}
 use Rattle.vx_bits.specs.declared.list.Item.{Item}
 use Rattle.vx_table.specs.Scope.{fresh, loaded, joined}
-use Rattle.vx_table.specs.Depends.{has, set_of, Agree}
+use Rattle.vx_table.specs.Depends.{has, Agree}
 use Rattle.vx_table.specs.Loaded.{number}
 use Rattle.vx_fields.specs.declared.pps.TheConstants.{pps_pic_parameter_set_id}
 use Rattle.vx_fields.specs.declared.ph.TheConstants.{ph_gdr_or_irap_pic_flag}
@@ -57,11 +57,11 @@ abbrev pub SliceScopesAgree : Type 0
 SliceScopesAgree = (fields : List ℕ) (nal_type : ℕ) (sps other_sps pps other_pps : List Item) (header other : PictureHeader)
     → All (λ n. n < pps_pic_parameter_set_id → number sps n ≡ number other_sps n) fields
     → All (λ n. pps_pic_parameter_set_id ≤ n → n < ph_gdr_or_irap_pic_flag → number pps n ≡ number other_pps n) fields
-    → All (λ n. ph_gdr_or_irap_pic_flag ≤ n → IsFalse (has (set_of beside) n) → number header.fields n ≡ number other.fields n) fields
+    → All (λ n. ph_gdr_or_irap_pic_flag ≤ n → IsFalse (has beside n) → number header.fields n ≡ number other.fields n) fields
     → extra_sh_bits_of sps ≡ extra_sh_bits_of other_sps
     → default_active pps 0 ≡ default_active other_pps 0 → default_active pps 1 ≡ default_active other_pps 1
     → length header.lists.first ≡ length other.lists.first → length header.lists.second ≡ length other.lists.second
-    → Agree (set_of fields) (slice_scope nal_type sps pps header (in_force sps pps))
+    → Agree fields (slice_scope nal_type sps pps header (in_force sps pps))
     (slice_scope nal_type other_sps other_pps other (in_force other_sps other_pps))
 
 -- It has a number for each field and name.

@@ -4,7 +4,7 @@ use Rattle.vx_bits.specs.declared.list.Item.{Item}
 use Rattle.vx_bits.specs.Codes.{IsCodeNumber, code_number}
 use Rattle.vx_table.specs.Scope.{is_set, one_if}
 use Rattle.vx_table.specs.Forms.{form_of}
-use Rattle.vx_table.specs.Depends.{set_of, Agree}
+use Rattle.vx_table.specs.Depends.{Agree}
 use Rattle.vx_table.specs.Loaded.{number}
 use Rattle.vx_table.specs.Rewritten.{other_items}
 use Rattle.vx_table.specs.Rewrites.{Takes}
@@ -80,7 +80,7 @@ pub record HaveSameSlices (layout : Numbers) (k : ℕ) (other : Numbers) (m : �
 
 -- Two picture headers have the same kept fields, and lists of the same lengths.
 pub record AreSameForSlices (header other : PictureHeader) : Type 0 where
-  pub fields : shown_items (set_of ph_kept.kept_ph_fields) other.fields ≡ shown_items (set_of ph_kept.kept_ph_fields) header.fields
+  pub fields : shown_items ph_kept.kept_ph_fields other.fields ≡ shown_items ph_kept.kept_ph_fields header.fields
   pub first : length other.lists.first ≡ length header.lists.first
   pub second : length other.lists.second ≡ length header.lists.second
 
@@ -110,8 +110,8 @@ pub record AreReshapedInSliceHeader (source : List Item) (shape : ShShape) (n : 
   pub fields : AreFields (in_force_at n) items []
   pub apart : number items sh.sh_picture_header_in_slice_header_flag ≡ 0
   pub id : number items sh.sh_subpic_id ≡ shape.subpic_id
-  pub kept : shown_items (set_of kept_fields) items ≡ shown_items (set_of kept_fields) source
-  pub others : other_items (set_of kept_fields) items ≡ stated_sh_items n shape
+  pub kept : shown_items kept_fields items ≡ shown_items kept_fields source
+  pub others : other_items kept_fields items ≡ stated_sh_items n shape
 
 -- Its subpicture has the stated id, its address and its lists are the source's.
 pub record IsReshapedSliceHeader (source : SliceHeader) (shape : ShShape) (n : SliceNumbers) (written : SliceHeader) : Type 0 where
@@ -133,7 +133,7 @@ pub record IsSent (source : SliceHeader) (shape : ShShape) (n : SliceNumbers) (b
 pub record IsSliceReadAgain (source written : SliceHeader) (n : At) (bytes payload : List ℕ) : Type 0 where
   pub begins : BeginsSlice n (bytes ++ payload) written (length bytes)
   pub only : (read : SliceHeader) (size : ℕ) → BeginsSlice n (bytes ++ payload) read size → (read ≡ written) × (size ≡ length bytes)
-  pub kept : shown_items (set_of kept_fields) written.fields ≡ shown_items (set_of kept_fields) source.fields
+  pub kept : shown_items kept_fields written.fields ≡ shown_items kept_fields source.fields
 
 abbrev pub ReshapedIsReadAgain : Type 0
 ReshapedIsReadAgain = (source written : SliceHeader) (shape : ShShape) (n : SliceNumbers) (bytes payload : List ℕ)
@@ -152,5 +152,5 @@ kept_in_force = sps_fields.sps_entropy_coding_sync_enabled_flag ∷ sps_fields.s
 abbrev pub SlicesAgreeOnKept : Type 0
 SlicesAgreeOnKept = (nal_type : ℕ) (sps pps other_sps other_pps : List Item) (header other : PictureHeader)
     → HaveSameKept sps pps other_sps other_pps → AreSameForSlices header other
-    → Agree (set_of kept_in_force) (slice_scope nal_type sps pps header (in_force sps pps))
+    → Agree kept_in_force (slice_scope nal_type sps pps header (in_force sps pps))
     (slice_scope nal_type other_sps other_pps other (in_force other_sps other_pps))

@@ -16,7 +16,7 @@ use std::alloc::{AllocError, Global};
 use std::marker::Model;
 use vx_bits::{BitWriter, Fields};
 use vx_ph::in_force;
-use vx_table::{Scope, Sender, SpellError, Unwritten, only_memory, set_of};
+use vx_table::{Scope, Sender, SpellError, Unwritten, only_memory};
 
 /// What the slice headers of a picture are sent at, whose units have one type: made once for all of them.
 ///
@@ -26,7 +26,6 @@ pub struct SliceSender<'a> {
     numbers: SliceNumbers<'a>,
     sets: Scope,
     slice: Scope,
-    starred: Scope,
 }
 
 impl<'a> Model for SliceSender<'a> {
@@ -34,7 +33,7 @@ impl<'a> Model for SliceSender<'a> {
 
     ghost view = { λ s. s.numbers };
 
-    ghost invariant = { λ s. AreScopes s.numbers s.sets s.slice s.starred };
+    ghost invariant = { λ s. AreScopes s.numbers s.sets s.slice };
 }
 
 impl<'a> SliceSender<'a> {
@@ -51,7 +50,6 @@ impl<'a> SliceSender<'a> {
             numbers,
             sets,
             slice,
-            starred: set_of(&STARRED),
         }
     }
 
@@ -77,7 +75,7 @@ impl<'a> SliceSender<'a> {
         };
         let mut scope = self.slice;
         let mut sender = Sender::new(
-            &self.starred,
+            &STARRED,
             Unwritten::new(stated, 0, stated.len()),
             Unwritten::new(source, 0, source.len()),
         );

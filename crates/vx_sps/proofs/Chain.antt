@@ -7,7 +7,7 @@ use Rattle.vx_table.specs.Scope.{fresh}
 use Rattle.vx_table.specs.Parts.{Section, sections_form}
 use Rattle.vx_table.specs.Spelling.{items_along}
 use Rattle.vx_table.specs.Values.{Follows}
-use Rattle.vx_table.specs.Depends.{has, set_of, Agree}
+use Rattle.vx_table.specs.Depends.{has, Agree}
 use Rattle.vx_table.specs.Claims.{sections_hide}
 use Rattle.vx_table.specs.Loaded.{number, sections_name_none}
 use Rattle.vx_table.specs.Rewrites.{Takes}
@@ -37,13 +37,13 @@ pub record Replaces (source : List Item) (shape : SpsShape) : Type 0 where
       → Takes (sections_form timing t) (timing_items source)
 
 abbrev names : List ℕ
-names = set_of taken_sps_fields
+names = taken_sps_fields
 
 -- a number that a replaced group reads
-reads : (given : List ℕ) (rest : List Section) {values others : List ℤ} {s last t : List ℕ} → sections_name_none (set_of given) sps_sections ≡ true → sections_hide (set_of given) rest ≡ true
-    → Follows sps_form values last → Follows (sections_form rest s) others last → Agree names s t → (n : ℕ) → IsTrue (has (set_of given) n) → IsTrue (has names n)
+reads : (given : List ℕ) (rest : List Section) {values others : List ℤ} {s last t : List ℕ} → sections_name_none given sps_sections ≡ true → sections_hide given rest ≡ true
+    → Follows sps_form values last → Follows (sections_form rest s) others last → Agree names s t → (n : ℕ) → IsTrue (has given n) → IsTrue (has names n)
     → slice_index t n ≡ number (items_along sps_form values) n
-reads given rest loads hide follows behind agree n is_given is_taken = standing (set_of given) names sps_sections rest loads hide follows behind agree n is_given is_taken
+reads given rest loads hide follows behind agree n is_given is_taken = standing given names sps_sections rest loads hide follows behind agree n is_given is_taken
 
 -- ---- the whole set
 
@@ -51,26 +51,26 @@ module _ {values : List ℤ} {last : List ℕ} (shape : SpsShape) (follows : Fol
   abbrev source : List Item
   source = items_along sps_form values
 
-  from_end : Onward names fresh end last []
-  from_end s w ends = copied_group names fresh end tests.end_taken.0 tests.end_taken.1 ends
+  from_end : Onward names [] end last []
+  from_end s w ends = copied_group names [] end tests.end_taken.0 tests.end_taken.1 ends
 
-  from_timing : Onward names fresh tests.from_timing last (timing_items source ++ [])
+  from_timing : Onward names [] tests.from_timing last (timing_items source ++ [])
   unfolding fresh
-  from_timing = replaced_first names fresh fresh timing end (inside_itself fresh) tests.timing_replaced.0 tests.timing_replaced.1
+  from_timing = replaced_first names [] [] timing end (inside_itself []) tests.timing_replaced.0 tests.timing_replaced.1
       (λ s t w ends agree empty. there.timing t empty.size (reads tests.read_numbers tests.from_timing tests.numbers_load tests.timed_stands follows ends agree sps_max_sublayers_minus1 refl refl)
       (reads tests.read_numbers tests.from_timing tests.numbers_load tests.timed_stands follows ends agree sps_timing_hrd_params_present_flag refl refl)) from_end
 
-  from_dpb : Onward names fresh tests.from_dpb last (dpb_items source shape.dpb ++ (timing_items source ++ []))
+  from_dpb : Onward names [] tests.from_dpb last (dpb_items source shape.dpb ++ (timing_items source ++ []))
   unfolding fresh
-  from_dpb = replaced_first names fresh fresh dpb tests.from_tools (inside_itself fresh) tests.dpb_replaced.0 tests.dpb_replaced.1
+  from_dpb = replaced_first names [] [] dpb tests.from_tools (inside_itself []) tests.dpb_replaced.0 tests.dpb_replaced.1
       (λ s t w ends agree empty. there.dpb t empty.size (reads tests.early_numbers tests.from_dpb tests.early_load tests.dpb_stands follows ends agree sps_max_sublayers_minus1 refl refl))
-      (copied_first names fresh tools tests.from_timing tests.tools_taken.0 tests.tools_taken.1 tests.tools_taken.2 from_timing)
+      (copied_first names [] tools tests.from_timing tests.tools_taken.0 tests.tools_taken.1 tests.tools_taken.2 from_timing)
 
   from_picture : Onward names tests.unset tests.from_picture last (picture_items source shape ++ (dpb_items source shape.dpb ++ (timing_items source ++ [])))
   unfolding fresh
-  from_picture = replaced_first names tests.unset fresh picture tests.from_counts (inside_nothing tests.unset) tests.picture_replaced.0 tests.picture_replaced.1
+  from_picture = replaced_first names tests.unset [] picture tests.from_counts (inside_nothing tests.unset) tests.picture_replaced.0 tests.picture_replaced.1
       (λ s t w ends agree empty. there.picture t empty (reads tests.early_numbers tests.from_picture tests.early_load tests.picture_stands follows ends agree sps_log2_ctu_size_minus5 refl refl))
-      (copied_first names fresh counts tests.from_dpb tests.counts_taken.0 tests.counts_taken.1 tests.counts_taken.2 from_dpb)
+      (copied_first names [] counts tests.from_dpb tests.counts_taken.0 tests.counts_taken.1 tests.counts_taken.2 from_dpb)
 
   from_profile : Onward names tests.unset tests.from_profile last (profile_items source shape.level ++ (picture_items source shape ++ (dpb_items source shape.dpb ++ (timing_items source ++ []))))
   unfolding fresh

@@ -22,7 +22,7 @@ use Rattle.vx_table.specs.Forms.{has_value, coding_at, cell_at}
 use Rattle.vx_table.specs.Parts.{sections_form}
 use Rattle.vx_table.specs.Spelling.{HasCode, items_along}
 use Rattle.vx_table.specs.Values.{Follows}
-use Rattle.vx_table.specs.Depends.{set_of, Agree}
+use Rattle.vx_table.specs.Depends.{Agree}
 use Rattle.vx_table.specs.Loaded.{StaysBelow, number, row_below, code_below, range_below}
 use Rattle.vx_table.specs.Rewrites.{Takes}
 use Rattle.vx_table.specs.Rewritten.{IsRewritten, Sources, RewritesField, RewritesInto}
@@ -122,7 +122,7 @@ module _ {values : List ℤ} {last : List ℕ} (follows : Follows sps_form value
 
   -- the picture, as each plan has it
   plan_goes : (ctu width height : ℕ) (window : List ℕ) (plan : SubpicPlan) (t : List ℕ) → ctu < 3 → IsSize width → IsSize height → All IsCodeNumber window
-      → IsPlan (quotient width (2 ^ (ctu + 5))) (quotient height (2 ^ (ctu + 5))) plan → Agree (set_of unset_names) fresh t → slice_index t sps.sps_log2_ctu_size_minus5 ≡ ctu
+      → IsPlan (quotient width (2 ^ (ctu + 5))) (quotient height (2 ^ (ctu + 5))) plan → Agree unset_names fresh t → slice_index t sps.sps_log2_ctu_size_minus5 ≡ ctu
       → Takes (sections_form picture t) (picture_size_items width height window ++ subpic_items (quotient width (2 ^ (ctu + 5))) (quotient height (2 ^ (ctu + 5))) plan)
   plan_goes ctu width height window Absent t small wide high are is empty same = picture_take ctu width height 0 window [] t small (omega arith) wide high are empty same (absent_at _ _)
   plan_goes ctu width height window (One id_len None) t small wide high are is empty same =
@@ -155,7 +155,7 @@ all_of items n size = take_all (n - 0) items (omega (arith, size))
 
 -- what a rewriter makes of all items of two lists
 pub made : {taken others shown hidden : List Item} {start names : List ℕ} {old new : Sources} {into after : List Item} {n m : ℕ} (a : List ℕ) (result : Result (Unit {0}) SpellError) → start ≡ fresh
-    → names ≡ set_of taken_sps_fields → n ≡ length taken → shown ≡ take (n - 0) (drop 0 taken) → m ≡ length others → hidden ≡ take (m - 0) (drop 0 others)
+    → names ≡ taken_sps_fields → n ≡ length taken → shown ≡ take (n - 0) (drop 0 taken) → m ≡ length others → hidden ≡ take (m - 0) (drop 0 others)
     → old ≡ record { names = names; shown = shown; others = hidden } → into ≡ [] → Walks RewritesField (sections_form sps_sections start) old into (leaving a result) new after
     → MakesSet taken others result after
 made {taken} {others} {shown} {hidden} {start} {names} {old} {new} {into} {after} {n} {m} a result at_start set size first count second whole empty walk items is =
@@ -163,7 +163,7 @@ made {taken} {others} {shown} {hidden} {start} {names} {old} {new} {into} {after
     let from : RewritesInto sps_form old [] result new after = subst (λ x. RewritesInto sps_form old x result new after) empty (subst (λ x. RewritesInto (sections_form sps_sections x) old into result new after) at_start makes) in
     let taken_is : old.shown ≡ taken = ap (λ r. r.shown) whole ∙ first ∙ all_of taken n size in
     let others_are : old.others ≡ others = ap (λ r. r.others) whole ∙ second ∙ all_of others m count in
-    let names_are : old.names ≡ set_of taken_sps_fields = ap (λ r. r.names) whole ∙ set in
+    let names_are : old.names ≡ taken_sps_fields = ap (λ r. r.names) whole ∙ set in
     makes_rewritten sps_form old new items after result from (rw (names_are, taken_is, others_are) is)
 
 -- so of what a source gives and what a shape states it makes the rewritten set
@@ -173,10 +173,10 @@ so_written (Err errors.Memory) f p = tt
 so_written (Err errors.NoValue) f p = p
 
 pub reshapes : {source fields taken others : List Item} (after : List Item) {shape : SpsShape} {names : List ℕ} (result : Result (Unit {0}) SpellError) → fields ≡ source → AreSpsItems fields → IsShape (ctb_size_of source) shape
-    → shape.level < 256 → names ≡ set_of taken_sps_fields → taken ≡ shown_items names fields → others ≡ stated_sps_items source shape → MakesSet taken others result after → IsWritten result (IsReshapedSps source shape after)
+    → shape.level < 256 → names ≡ taken_sps_fields → taken ≡ shown_items names fields → others ≡ stated_sps_items source shape → MakesSet taken others result after → IsWritten result (IsReshapedSps source shape after)
 reshapes {source} {fields} {taken} {others} after {shape} result same is fits level set first second makes =
     let there = reshaped_is source shape (subst AreSpsItems same is) fits level in
-    let wanted : IsRewritten sps_form (set_of taken_sps_fields) taken others there.0 = rw (first, second, set, same) there.1 in
+    let wanted : IsRewritten sps_form taken_sps_fields taken others there.0 = rw (first, second, set, same) there.1 in
     so_written result (λ e. subst (λ x. IsReshapedSps source shape x) (sym e) there.1) (makes there.0 wanted)
 
 -- a rewritten set is a set

@@ -21,7 +21,7 @@ use Rattle.vx_table.specs.Scope.{most, fresh, value, natural, is_set, one_if, po
 use Rattle.vx_table.specs.Forms.{has_value, coding_at, limits_at, one_field, turns, present, part, form_of, after}
 use Rattle.vx_table.specs.Parts.{Section, in_turns, sections_form}
 use Rattle.vx_table.specs.Spelling.{HasCode, fault_of, item_of}
-use Rattle.vx_table.specs.Depends.{set_of, with_all, Agree}
+use Rattle.vx_table.specs.Depends.{Agree}
 use Rattle.vx_table.specs.Claims.{knows_formula, knows_width, knows_range, knows_presence, hides_counter, hides_row, behind_field, within_block, depends, behind_rows, table_depends, behind_table, comes_always}
 use Rattle.vx_table.specs.Named.{named_by}
 use Rattle.vx_table.specs.laws.Again.{shows_row}
@@ -116,7 +116,7 @@ sizes_at : (n columns rows i w h : ℕ) (s : List ℕ) (before_last : Bool) → 
     (At n columns rows i)
 unfolding fresh places_at turn_at part one_field has_value knows_formula knows_width knows_range value coding_at limits_at HasCode fault_of item_of
 sizes_at n columns rows i w h s true is few small wide high met =
-    let agree : Agree (set_of turn_given) (turn_at n columns rows i) s = agree_given turn_given met.0 met.1 in
+    let agree : Agree turn_given (turn_at n columns rows i) s = agree_given turn_given met.0 met.1 in
     let same = same_value (Below (Latest names.SUBPIC) (Latest sps.sps_num_subpics_minus1)) agree refl in
     there_to _ _ s (ap (λ x. x == 0) (sym same) ∙ ap (λ b. one_if b == 0) is)
     (then_to _ (field_where turn_given (turn_at n columns rows i) s (Plain (Latest names.IS_WIDE)) (place_cell sps.sps_subpic_width_minus1 names.X_BITS) (nat_lt 1 columns) (pos w) refl refl refl refl met
@@ -124,7 +124,7 @@ sizes_at n columns rows i w h s true is few small wide high met =
     (λ t there. no_more_to (field_where turn_given (turn_at n columns rows i) t (Plain (Latest names.IS_HIGH)) (place_cell sps.sps_subpic_height_minus1 names.Y_BITS) (nat_lt 1 rows) (pos h) refl refl refl refl there
     (flag_seen (nat_lt 1 rows)) (record { code = fits_bits rows h small high; range = refl }))))
 sizes_at n columns rows i w h s false is few small wide high met =
-    let agree : Agree (set_of turn_given) (turn_at n columns rows i) s = agree_given turn_given met.0 met.1 in
+    let agree : Agree turn_given (turn_at n columns rows i) s = agree_given turn_given met.0 met.1 in
     let same = same_value (Below (Latest names.SUBPIC) (Latest sps.sps_num_subpics_minus1)) agree refl in
     absent_to _ _ s (ap (λ x. x == 0) (sym same) ∙ ap (λ b. one_if b == 0) is) met
 
@@ -171,16 +171,16 @@ place_goes columns rows rects i few small are within =
 -- ---- turn by turn
 
 abbrev place_shown : List ℕ
-place_shown = with_all (set_of (places_given ++ names.SUBPIC ∷ [])) (named_by PLACE)
+place_shown = (names.SUBPIC ∷ places_given) ++ named_by PLACE
 
 places_turn : (columns rows : ℕ) (rects : List Rect) → columns ≤ 16384 → rows ≤ 16384 → All (IsPart columns rows) rects
     → Takes (turns (form_of PLACE) names.SUBPIC 0 (length rects) (places_at (length rects) columns rows)) (in_all_turns (place_items columns rows rects) 0 (length rects))
 unfolding fresh has_value knows_formula knows_width knows_range knows_presence hides_counter hides_row behind_field within_block depends behind_rows table_depends behind_table comes_always shows_row
 places_turn columns rows rects few small are =
     let s : List ℕ = places_at (length rects) columns rows in
-    turns_take place_shown (set_of places_given) _ (form_of PLACE) names.SUBPIC (length rects) s s (place_items columns rows rects) refl
-    (inside_with_all (set_of (places_given ++ names.SUBPIC ∷ [])) (named_by PLACE)) (table_carries place_shown (set_of (places_given ++ names.SUBPIC ∷ [])) PLACE refl) (tables_show place_shown PLACE refl)
-    (tables_leave (set_of places_given) PLACE refl) (agree_itself (set_of places_given) s) (λ i within. place_goes columns rows rects i few small are within)
+    turns_take place_shown places_given _ (form_of PLACE) names.SUBPIC (length rects) s s (place_items columns rows rects) refl
+    (inside_with_all (names.SUBPIC ∷ places_given) (named_by PLACE)) (table_carries place_shown (names.SUBPIC ∷ places_given) PLACE refl) (tables_show place_shown PLACE refl)
+    (tables_leave places_given PLACE refl) (agree_itself places_given s) (λ i within. place_goes columns rows rects i few small are within)
 
 abbrev places_group : List Section
 places_group = in_turns names.SUBPIC (Plain (Latest names.NUM_PLACES)) PLACE ∷ []

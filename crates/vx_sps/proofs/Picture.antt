@@ -14,7 +14,7 @@ use Rattle.vx_table.specs.Scope.{most, fresh, value, natural, capped, one_if, qu
 use Rattle.vx_table.specs.Forms.{has_value, coding_at, limits_at, one_field, turns, present, part, form_of, after}
 use Rattle.vx_table.specs.Parts.{Section, always, in_turns, sections_form}
 use Rattle.vx_table.specs.Spelling.{HasCode, fault_of, item_of}
-use Rattle.vx_table.specs.Depends.{set_of, Agree}
+use Rattle.vx_table.specs.Depends.{Agree}
 use Rattle.vx_table.specs.Claims.{knows_formula, knows_width, knows_range, knows_presence, hides_counter, hides_row, behind_field, within_block, depends, behind_rows, table_depends, behind_table, comes_always}
 use Rattle.vx_table.specs.laws.Again.{shows_row}
 use Rattle.vx_table.specs.Rewrites.{Takes}
@@ -148,7 +148,7 @@ mapped_at columns rows id_len id few small =
 
 -- the size and the flag, and behind them what goes through the subpictures' tables
 pub picture_take : (ctu width height info : ℕ) (window : List ℕ) (others : List Item) (t : List ℕ) → ctu < 3 → info < 2 → IsSize width → IsSize height → All IsCodeNumber window
-    → Agree (set_of unset_names) fresh t → slice_index t sps.sps_log2_ctu_size_minus5 ≡ ctu
+    → Agree unset_names fresh t → slice_index t sps.sps_log2_ctu_size_minus5 ≡ ctu
     → Takes (sections_form block (block_at info (quotient width (2 ^ (ctu + 5))) (quotient height (2 ^ (ctu + 5))))) others
     → Takes (sections_form picture t) (picture_size_items width height window ++ item sps.sps_subpic_info_present_flag info ∷ others)
 unfolding fresh has_value knows_formula knows_width knows_range knows_presence hides_counter hides_row behind_field within_block depends behind_rows table_depends behind_table comes_always shows_row ctu_at sized_at

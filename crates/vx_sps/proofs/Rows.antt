@@ -5,7 +5,6 @@ use Rattle.vx_table.specs.Scope.{fresh}
 use Rattle.vx_table.specs.Forms.{has_value}
 use Rattle.vx_table.specs.Parts.{Section}
 use Rattle.vx_table.specs.EachField.{sections_pass}
-use Rattle.vx_table.specs.Depends.{set_of}
 use Rattle.vx_table.specs.Claims.{knows_formula, knows_width, knows_range, knows_presence, hides_counter, hides_row, behind_field, within_block, depends, behind_rows, table_depends, behind_table, comes_always, sections_chain, sections_hide}
 use Rattle.vx_table.specs.laws.Again.{shows_row}
 use Rattle.vx_table.specs.Loaded.{names_none, sections_name_none}
@@ -16,10 +15,10 @@ use Rattle.vx_sps.specs.Structure.{ids, start, profile, resampling, picture, cou
 
 -- names that have no number before the picture
 abbrev pub unset : List ℕ
-unset = set_of (sps_num_subpics_minus1 ∷ sps_independent_subpics_flag ∷ sps_subpic_same_size_flag ∷ [])
+unset = sps_num_subpics_minus1 ∷ sps_independent_subpics_flag ∷ sps_subpic_same_size_flag ∷ []
 
 abbrev pub is_taken : List Section → Type 0
-is_taken group = (sections_chain (set_of taken_sps_fields) (set_of taken_sps_fields) group ≡ true) × (sections_pass (shows_row (set_of taken_sps_fields)) group ≡ true) × (sections_hide fresh group ≡ true) × (sections_hide unset group ≡ true)
+is_taken group = (sections_chain taken_sps_fields taken_sps_fields group ≡ true) × (sections_pass (shows_row taken_sps_fields) group ≡ true) × (sections_hide [] group ≡ true) × (sections_hide unset group ≡ true)
 
 pub start_taken : is_taken start
 unfolding fresh has_value knows_formula knows_width knows_range knows_presence hides_counter hides_row behind_field within_block depends behind_rows table_depends behind_table comes_always shows_row
@@ -44,7 +43,7 @@ end_taken = (refl, refl, refl, refl)
 -- ---- groups that are replaced: none of their fields is taken over
 
 abbrev pub is_replaced : List Section → Type 0
-is_replaced group = (sections_hide (set_of taken_sps_fields) group ≡ true) × (sections_hide fresh group ≡ true)
+is_replaced group = (sections_hide taken_sps_fields group ≡ true) × (sections_hide [] group ≡ true)
 
 pub ids_replaced : is_replaced ids
 unfolding fresh hides_counter hides_row
@@ -82,11 +81,11 @@ read_numbers = sps_max_sublayers_minus1 ∷ sps_timing_hrd_params_present_flag �
 abbrev pub early_numbers : List ℕ
 early_numbers = sps_max_sublayers_minus1 ∷ sps_log2_ctu_size_minus5 ∷ []
 
-pub numbers_load : sections_name_none (set_of read_numbers) sps_sections ≡ true
+pub numbers_load : sections_name_none read_numbers sps_sections ≡ true
 unfolding fresh names_none hides_counter
 numbers_load = refl
 
-pub early_load : sections_name_none (set_of early_numbers) sps_sections ≡ true
+pub early_load : sections_name_none early_numbers sps_sections ≡ true
 unfolding fresh names_none hides_counter
 early_load = refl
 
@@ -114,18 +113,18 @@ from_profile = profile ++ from_resampling
 abbrev pub from_start : List Section
 from_start = start ++ from_profile
 
-pub profile_stands : sections_hide (set_of early_numbers) from_profile ≡ true
+pub profile_stands : sections_hide early_numbers from_profile ≡ true
 unfolding fresh hides_counter hides_row
 profile_stands = refl
 
-pub picture_stands : sections_hide (set_of early_numbers) from_picture ≡ true
+pub picture_stands : sections_hide early_numbers from_picture ≡ true
 unfolding fresh hides_counter hides_row
 picture_stands = refl
 
-pub dpb_stands : sections_hide (set_of early_numbers) from_dpb ≡ true
+pub dpb_stands : sections_hide early_numbers from_dpb ≡ true
 unfolding fresh hides_counter hides_row
 dpb_stands = refl
 
-pub timed_stands : sections_hide (set_of read_numbers) from_timing ≡ true
+pub timed_stands : sections_hide read_numbers from_timing ≡ true
 unfolding fresh hides_counter hides_row
 timed_stands = refl

@@ -3,14 +3,13 @@ use Rattle.std.proofs.Common.{◌≡◌, ◌⊎◌, inl, inr, ℕ, zero, suc, �
 use Rattle.std.specs.Prelude.{Bool, nat_lt, slice_index_or}
 use Rattle.std.proofs.Math.Pow.{pow_mono}
 use Rattle.std.proofs.lemmas.Bool.{and_parts, cases_Bool, cases_eq}
-use Rattle.std.proofs.lemmas.List.{get_or-set_other}
 use Rattle.vx_bits.specs.declared.list.Item.{Item}
 use Rattle.vx_fields.specs.declared.sps.TheConstants as sps
 use Rattle.vx_fields.specs.declared.timing.TheConstants as timing
 use Rattle.vx_layout.specs.declared.rect.Rect.{Rect}
 use Rattle.vx_layout.specs.Rects.{whole_picture}
 use Rattle.vx_table.specs.Scope.{fresh, natural, is_set, quotient}
-use Rattle.vx_table.specs.Depends.{has, Inside, with_all, set_of}
+use Rattle.vx_table.specs.Depends.{has, Inside}
 use Rattle.vx_table.specs.Loaded.{number, row_below, code_below, range_below}
 use Rattle.vx_table.specs.Forms.{has_value}
 use Rattle.vx_table.specs.Rewrites.{in_all_turns}
@@ -28,6 +27,7 @@ use Rattle.vx_sps.specs.Depends.{kept_sps_fields}
 use Rattle.vx_sps.specs.Reshaped.{item, item_of_source, place_items, sps_id_items, profile_items, picture_size_items, window_items, has_window, places_items, id_bits, subpic_items, picture_items, dpb_items, rate_items, timing_items, stated_sps_items, IsPlan, IsShape, IsReshapedSps}
 use Rattle.vx_table.specs.Rewritten.{where_so}
 use Rattle.vx_sps.specs.laws.Reread.{count_in, rect_in, id_in_plan, Says, ReshapedSays, ReshapedKeeps}
+use Rattle.vx_table.proofs.Agreeing.{others_too}
 use Rattle.vx_table.proofs.Groups.{inside_nothing}
 use Rattle.vx_sps.proofs.Stages.{knows_all}
 use Rattle.vx_sps.proofs.Stated.{below}
@@ -37,24 +37,23 @@ use Rattle.vx_sps.proofs.Places.{place_passes, places_pass, corners, sizes, corn
 
 -- ---- the kept fields
 
-inside_all : (given : List ℕ) {names more : List ℕ} → Inside names more → knows_all more given ≡ true → Inside (with_all names given) more
-inside_all [] inside knows = inside
-inside_all (n ∷ rest) {names} {more} inside knows =
+inside_all : (given more : List ℕ) → knows_all more given ≡ true → Inside given more
+inside_all [] more knows = inside_nothing more
+inside_all (n ∷ rest) more knows =
     let parts = and_parts (has more n) (knows_all more rest) knows in
-    inside_all rest (record {
+    record {
       has_too = λ m h. elim (cases_eq m n) [
         | inl is ↦ ap (has more) is ∙ parts.0
-        | inr is_not ↦ inside.has_too m (ap is_set (sym (get_or-set_other names n m 1 0 is_not)) ∙ h)
+        | inr is_not ↦ (inside_all rest more parts.1).has_too m (others_too rest n m is_not h)
       ];
-    }) parts.1
+    }
 
-kept_inside : Inside (set_of kept_sps_fields) (set_of taken_sps_fields)
-unfolding fresh
-kept_inside = inside_all kept_sps_fields (inside_nothing (set_of taken_sps_fields)) refl
+kept_inside : Inside kept_sps_fields taken_sps_fields
+kept_inside = inside_all kept_sps_fields taken_sps_fields refl
 
 pub reshaped_keeps : ReshapedKeeps
 reshaped_keeps source items shape is =
-    sym (shown_of_shown (set_of kept_sps_fields) (set_of taken_sps_fields) items kept_inside) ∙ ap (λ x. shown_items (set_of kept_sps_fields) x) is.shown_ones ∙ shown_of_shown (set_of kept_sps_fields) (set_of taken_sps_fields) source kept_inside
+    sym (shown_of_shown kept_sps_fields taken_sps_fields items kept_inside) ∙ ap (λ x. shown_items kept_sps_fields x) is.shown_ones ∙ shown_of_shown kept_sps_fields taken_sps_fields source kept_inside
 
 -- ---- the picture among what is stated
 
@@ -232,11 +231,11 @@ own_same i a b e f g h = rw (a, b, e, f, g, h) refl
 
 -- ---- the set
 
-items_with : (source items : List Item) (shape : SpsShape) → IsReshapedSps source shape items → (of : ℕ) → beside of ≡ false → nat_lt of 109 ≡ false → IsFalse (has (set_of taken_sps_fields) of)
+items_with : (source items : List Item) (shape : SpsShape) → IsReshapedSps source shape items → (of : ℕ) → beside of ≡ false → nat_lt of 109 ≡ false → IsFalse (has taken_sps_fields of)
     → with_field of items ≡ with_field of (picture_items source shape)
-items_with source items shape is of fails past outside = sym (others_with (set_of taken_sps_fields) of items outside) ∙ ap (λ x. with_field of x) is.other_ones ∙ picture_with of source shape fails past
+items_with source items shape is of fails past outside = sym (others_with taken_sps_fields of items outside) ∙ ap (λ x. with_field of x) is.other_ones ∙ picture_with of source shape fails past
 
-pub block_of : (source items : List Item) (shape : SpsShape) → IsReshapedSps source shape items → (of : ℕ) → beside of ≡ false → nat_lt of 109 ≡ false → IsFalse (has (set_of taken_sps_fields) of) → nat_lt of 116 ≡ false
+pub block_of : (source items : List Item) (shape : SpsShape) → IsReshapedSps source shape items → (of : ℕ) → beside of ≡ false → nat_lt of 109 ≡ false → IsFalse (has taken_sps_fields of) → nat_lt of 116 ≡ false
     → with_field of items ≡ with_field of (subpic_items (quotient shape.width (ctb_size_of source)) (quotient shape.height (ctb_size_of source)) shape.subpics)
 block_of source items shape is of fails past outside later =
     items_with source items shape is of fails past outside
@@ -252,7 +251,7 @@ module _ (source items : List Item) (shape : SpsShape) (set : AreSpsItems source
   abbrev spelled : List Item
   spelled = subpic_items across down shape.subpics
 
-  listed : (of : ℕ) → beside of ≡ false → nat_lt of 109 ≡ false → IsFalse (has (set_of taken_sps_fields) of) → nat_lt of 116 ≡ false → numbers_of items of ≡ numbers_of spelled of
+  listed : (of : ℕ) → beside of ≡ false → nat_lt of 109 ≡ false → IsFalse (has taken_sps_fields of) → nat_lt of 116 ≡ false → numbers_of items of ≡ numbers_of spelled of
   listed of fails past outside later = ap (λ xs. map (λ item. natural item.value) xs) (block_of source items shape is of fails past outside later)
 
   width_is : width_of items ≡ shape.width
@@ -266,8 +265,8 @@ module _ (source items : List Item) (shape : SpsShape) (set : AreSpsItems source
   ctu_is : number items sps.sps_log2_ctu_size_minus5 ≡ number source sps.sps_log2_ctu_size_minus5
   unfolding fresh
   ctu_is =
-      number_of_shown (set_of taken_sps_fields) sps.sps_log2_ctu_size_minus5 items refl ∙ ap (λ x. number x sps.sps_log2_ctu_size_minus5) is.shown_ones
-      ∙ sym (number_of_shown (set_of taken_sps_fields) sps.sps_log2_ctu_size_minus5 source refl)
+      number_of_shown taken_sps_fields sps.sps_log2_ctu_size_minus5 items refl ∙ ap (λ x. number x sps.sps_log2_ctu_size_minus5) is.shown_ones
+      ∙ sym (number_of_shown taken_sps_fields sps.sps_log2_ctu_size_minus5 source refl)
 
   ctb_is : ctb_size_of items ≡ ctb_size_of source
   ctb_is = ap (λ n. 2 ^ (n + 5)) ctu_is

@@ -8,7 +8,6 @@ use Rattle.vx_table.specs.Scope.{fresh}
 use Rattle.vx_table.specs.Forms.{has_value}
 use Rattle.vx_table.specs.EachField.{EachField}
 use Rattle.vx_table.specs.Spelling.{items_along}
-use Rattle.vx_table.specs.Depends.{has, set_of}
 use Rattle.vx_table.specs.Kept.{stands_for_field, Keeps}
 use Rattle.vx_table.specs.Shown.{star_tells, KeepsShown}
 use Rattle.vx_table.specs.Rewritten.{FillsNone, fills_none}
@@ -20,7 +19,7 @@ use Rattle.vx_sps.specs.Structure.{sps_sections, sps_form}
 
 -- ---- those of a set
 
-keeps_shown : KeepsShown (set_of kept_sps_fields) sps_form
+keeps_shown : KeepsShown kept_sps_fields sps_form
 unfolding fresh has_value stands_for_field star_tells
 keeps_shown = (structure_keeps_only [] kept_sps_fields sps_sections refl).keeps fresh
 
@@ -29,7 +28,7 @@ unfolding has_value stands_for_field fills_none
 fills = sections_fill_none sps_sections fresh refl
 
 pub kept_are_sifted : KeptAreSifted
-kept_are_sifted values end follows = kept_are_shown (set_of kept_sps_fields) keeps_shown fills follows
+kept_are_sifted values end follows = kept_are_shown kept_sps_fields keeps_shown fills follows
 
 -- ---- what the sifter of a set's items has kept
 

@@ -1,9 +1,8 @@
 -- What a rewritten set signals of itself and of the ids of its subpictures.
-use Rattle.std.proofs.Common.{◌≡◌, ℕ, ◌+◌, ◌-◌, ◌<◌, false, List, [], ◌∷◌, ◌++◌, length, Some, None, refl, ap, sym, ◌∙◌, arith}
+use Rattle.std.proofs.Common.{◌≡◌, ℕ, ◌-◌, ◌<◌, false, List, [], ◌∷◌, ◌++◌, length, Some, None, refl, ap, sym, ◌∙◌, arith}
 use Rattle.std.specs.Prelude.{nat_lt}
 use Rattle.vx_bits.specs.declared.list.Item.{Item}
 use Rattle.vx_layout.specs.declared.rect.Rect.{Rect}
-use Rattle.vx_table.specs.Depends.{set_of}
 use Rattle.vx_table.specs.Loaded.{number}
 use Rattle.vx_table.specs.Scope.{fresh, quotient}
 use Rattle.vx_table.proofs.With.{lacks, no_number, one_number, others_with, passing_append, same_number, with_field, with_second}
@@ -86,7 +85,7 @@ reshaped_signals source items shape low few is =
     let across : ℕ = quotient shape.width (ctb_size_of source) in
     let down : ℕ = quotient shape.height (ctb_size_of source) in
     record {
-      id = one_number 100 shape.id items (omega arith) (omega (arith, low)) (sym (others_with (set_of taken_sps_fields) 100 items refl) ∙ ap (λ xs. with_field 100 xs) is.other_ones ∙ own_id source shape);
+      id = one_number 100 shape.id items (omega arith) (omega (arith, low)) (sym (others_with taken_sps_fields 100 items refl) ∙ ap (λ xs. with_field 100 xs) is.other_ones ∙ own_id source shape);
       described = same_number 116 items (subpic_items across down shape.subpics) (block_of source items shape is 116 refl refl refl refl) ∙ described across down shape.subpics;
       id_len = same_number 126 items (subpic_items across down shape.subpics) (block_of source items shape is 126 refl refl refl refl) ∙ id_len across down shape.subpics few;
       explicit = same_number 127 items (subpic_items across down shape.subpics) (block_of source items shape is 127 refl refl refl refl) ∙ explicit across down shape.subpics;

@@ -16,7 +16,7 @@ use Rattle.vx_table.specs.Parts.{Section, always, sections_form}
 use Rattle.vx_table.specs.Spelling.{HasCode, fault_of, item_of, items_along}
 use Rattle.vx_table.specs.Values.{IsValueOf, Follows, to_end, through}
 use Rattle.vx_table.specs.EachField.{sections_pass}
-use Rattle.vx_table.specs.Depends.{has, with_all, set_of, Agree}
+use Rattle.vx_table.specs.Depends.{has, Agree}
 use Rattle.vx_table.specs.Claims.{knows_formula, knows_cell, sections_chain, behind_sections, sections_depend_only_on, sections_hide}
 use Rattle.vx_table.specs.Named.{named_by_all}
 use Rattle.vx_table.specs.laws.Again.{shows_row}
@@ -45,12 +45,12 @@ standing given names whole rest {values} {others} {s} {end} loads hide follows b
 -- ---- what goes through a group
 
 -- One group beside another, which reads numbers that the first leaves alone: what goes through each at one scope.
-pub groups_beside : (given : List ℕ) (first more : List Section) (s : List ℕ) {here others : List Item} → sections_hide (set_of given) first ≡ true
-    → sections_depend_only_on given (named_by_all more) more ≡ true → sections_pass (shows_row (with_all (set_of given) (named_by_all more))) more ≡ true
+pub groups_beside : (given : List ℕ) (first more : List Section) (s : List ℕ) {here others : List Item} → sections_hide given first ≡ true
+    → sections_depend_only_on given (named_by_all more) more ≡ true → sections_pass (shows_row (given ++ named_by_all more)) more ≡ true
     → Takes (sections_form first s) here → Takes (sections_form more s) others → Takes (sections_form (first ++ more) s) (here ++ others)
 groups_beside given first more s hide depends shows before rest =
     groups_take first more s before
-    (takes_at given more s before.end depends shows (leaves_agree (set_of given) (sections_form first) s before.values before.end (sections_leave (set_of given) first hide) before.follows) rest)
+    (takes_at given more s before.end depends shows (leaves_agree given (sections_form first) s before.values before.end (sections_leave given first hide) before.follows) rest)
 
 -- These are the items of values that go through the form, to an end of which a fact holds.
 pub record TakesTo (form : Form (List ℕ)) (items : List Item) (P : List ℕ → Type 0) : Type 0 where
@@ -94,14 +94,14 @@ meets_on known (n ∷ more) c knows met agree =
 
 -- what goes through at one scope, to an end that meets another, does so at each scope that agrees on the numbers read
 pub stage_at : (given next : List ℕ) (sections : List Section) (s t c : List ℕ) {items : List Item}
-    → sections_chain (with_all (set_of given) (named_by_all sections)) (set_of given) sections ≡ true
-    → sections_pass (shows_row (with_all (set_of given) (named_by_all sections))) sections ≡ true
-    → knows_all (behind_sections (with_all (set_of given) (named_by_all sections)) (set_of given) sections) next ≡ true
+    → sections_chain (given ++ named_by_all sections) given sections ≡ true
+    → sections_pass (shows_row (given ++ named_by_all sections)) sections ≡ true
+    → knows_all (behind_sections (given ++ named_by_all sections) given sections) next ≡ true
     → Meets given s t → TakesTo (sections_form sections s) items (Meets next c) → TakesTo (sections_form sections t) items (Meets next c)
 stage_at given next sections s t c chain shows knows met there =
-    let shown : List ℕ = with_all (set_of given) (named_by_all sections) in
-    let known : List ℕ = behind_sections shown (set_of given) sections in
-    let alike = (sections_carry shown (set_of given) sections chain).alike (inside_with_all (set_of given) (named_by_all sections)) s t (agree_given given met.0 met.1) in
+    let shown : List ℕ = given ++ named_by_all sections in
+    let known : List ℕ = behind_sections shown given sections in
+    let alike = (sections_carry shown given sections chain).alike (inside_with_all given (named_by_all sections)) s t (agree_given given met.0 met.1) in
     let all = sections_show shown sections shows in
     let first = there.takes in
     let again = follows_again shown known (sections_form sections s) (sections_form sections t) first.values first.end alike (all.at s) (all.at t) first.follows in
@@ -152,10 +152,10 @@ field_to {cell} {goes} v {items} code range rest = record {
 }
 
 -- A field on a condition, in a block of its own, at each scope that meets one at which its width, range and condition are known.
-meets_set : (given : List ℕ) (c s : List ℕ) (f v : ℕ) → knows_all (set_of given) given ≡ true → IsFalse (has (set_of given) f) → Meets given c s → Meets given c (slice_set s f v)
-meets_set given c s f v knows outside met = (met.0 ∙ sym (length-set s f v), meets_on (set_of given) given c knows met.1 (agree_outside (set_of given) s f v outside))
+meets_set : (given : List ℕ) (c s : List ℕ) (f v : ℕ) → knows_all given given ≡ true → IsFalse (has given f) → Meets given c s → Meets given c (slice_set s f v)
+meets_set given c s f v knows outside met = (met.0 ∙ sym (length-set s f v), meets_on given given c knows met.1 (agree_outside given s f v outside))
 
-meets_after : (given : List ℕ) (c s : List ℕ) (cell : Cell ℕ) (v : ℤ) → knows_all (set_of given) given ≡ true → IsFalse (has (set_of given) cell.field) → Meets given c s → Meets given c (after s cell v)
+meets_after : (given : List ℕ) (c s : List ℕ) (cell : Cell ℕ) (v : ℤ) → knows_all given given ≡ true → IsFalse (has given cell.field) → Meets given c s → Meets given c (after s cell v)
 unfolding after
 meets_after given c s cell v knows outside met =
     elim (has_value cell.coding) as (λ b. Meets given c (cond b (slice_set s cell.field (natural v)) s)) [ true ↦ meets_set given c s cell.field (natural v) knows outside met | false ↦ met ]
@@ -165,12 +165,12 @@ one_to {P} s cell v is here =
     subst (λ x. TakesTo (field cell (λ w. done (after s cell w))) x P) (append-nil (item_of cell v))
     (field_to v is.code is.range (record { takes = record { values = []; end = after s cell v; follows = to_end; all = refl }; at_end = here }))
 
-pub field_where : (given : List ℕ) (c s : List ℕ) (holds : Formula) (cell : Cell Formula) (so : Bool) (v : ℤ) → knows_all (set_of given) given ≡ true → knows_formula (set_of given) holds ≡ true
-    → knows_cell (set_of given) cell ≡ true → IsFalse (has (set_of given) cell.field) → Meets given c s → (value c holds == 0) ≡ not so → IsValueOf (cell_at c cell) v
+pub field_where : (given : List ℕ) (c s : List ℕ) (holds : Formula) (cell : Cell Formula) (so : Bool) (v : ℤ) → knows_all given given ≡ true → knows_formula given holds ≡ true
+    → knows_cell given cell ≡ true → IsFalse (has given cell.field) → Meets given c s → (value c holds == 0) ≡ not so → IsValueOf (cell_at c cell) v
     → TakesTo (present (When holds) (λ t. one_field t cell) s) (where_so so (item_of (cell_at c cell) v)) (Meets given c)
 unfolding one_field
 field_where given c s holds cell so v knows knows_holds knows_it outside met is value_is =
-    let agree : Agree (set_of given) c s = agree_given given met.0 met.1 in
+    let agree : Agree given c s = agree_given given met.0 met.1 in
     let same : cell_at c cell ≡ cell_at s cell = same_cell cell agree knows_it in
     let takes : TakesTo (field (cell_at c cell) (λ w. done (after s (cell_at c cell) w))) (item_of (cell_at c cell) v) (Meets given c)
     = one_to s (cell_at c cell) v value_is (meets_after given c s (cell_at c cell) v knows outside met) in
@@ -178,7 +178,7 @@ field_where given c s holds cell so v knows knows_holds knows_it outside met is 
     (subst (λ x. TakesTo (field x (λ w. done (after s x w))) (item_of (cell_at c cell) v) (Meets given c)) same takes) met
 
 -- a block that isn't there, at each scope that meets one at which its condition is known not to hold
-pub nowhere : (given : List ℕ) (c s : List ℕ) (holds : Formula) (block : List ℕ → Form (List ℕ)) → knows_formula (set_of given) holds ≡ true → Meets given c s
+pub nowhere : (given : List ℕ) (c s : List ℕ) (holds : Formula) (block : List ℕ → Form (List ℕ)) → knows_formula given holds ≡ true → Meets given c s
     → (value c holds == 0) ≡ true → TakesTo (present (When holds) block s) [] (Meets given c)
 nowhere given c s holds block knows met is =
     absent_to holds block s (ap (λ x. x == 0) (sym (same_value holds (agree_given given met.0 met.1) knows)) ∙ is) met

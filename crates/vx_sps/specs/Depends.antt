@@ -5,7 +5,7 @@ use Rattle.vx_fields.specs.declared.names.rpl.TheConstants.{NUM_STRUCTURES, STRU
 use Rattle.vx_fields.specs.declared.names.rpl.TheConstants.{HAS_SIGN, IS_LONG, LONG_ENTRIES}
 use Rattle.vx_fields.specs.declared.names.sps.TheConstants.{EXTRA_BIT, NUM_QP_TABLES, QP_TABLE, QP_POINT, INTERVAL, VUI_BYTE}
 use Rattle.vx_fields.specs.declared.sps.TheConstants as sps
-use Rattle.vx_table.specs.Depends.{set_of, DependsOnlyOn}
+use Rattle.vx_table.specs.Depends.{DependsOnlyOn}
 use Rattle.vx_table.specs.Kept.{kept_along}
 use Rattle.vx_table.specs.Parts.{sections_form}
 use Rattle.vx_table.specs.Rewritten.{other_items}
@@ -22,7 +22,7 @@ kept_sps_fields = unstarred sps_sections
 
 -- the items of a set's kept fields, in order
 abbrev pub kept_sps_items : List Item → List Item
-kept_sps_items items = shown_items (set_of kept_sps_fields) items
+kept_sps_items items = shown_items kept_sps_fields items
 
 -- the names that their rows use
 abbrev pub names_of_kept : List ℕ
@@ -56,4 +56,4 @@ KeptAreSifted = (values : List ℤ) (end : List ℕ) → Follows sps_form values
 abbrev pub KeptAndOthersTell : Type 0
 KeptAndOthersTell = (items others : List Item) → AreSpsItems items → AreSpsItems others
     → kept_sps_items items ≡ kept_sps_items others
-    → other_items (set_of kept_sps_fields) items ≡ other_items (set_of kept_sps_fields) others → items ≡ others
+    → other_items kept_sps_fields items ≡ other_items kept_sps_fields others → items ≡ others

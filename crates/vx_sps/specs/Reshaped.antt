@@ -12,7 +12,6 @@ use Rattle.vx_layout.specs.Borders.{Begins, Ends}
 use Rattle.vx_layout.specs.Layouts.{no_rect}
 use Rattle.vx_layout.specs.Rects.{IsPart}
 use Rattle.vx_table.specs.Scope.{one_if, is_set, quotient, powers_below}
-use Rattle.vx_table.specs.Depends.{set_of}
 use Rattle.vx_table.specs.Loaded.{number}
 use Rattle.vx_table.specs.Rewrites.{in_all_turns}
 use Rattle.vx_table.specs.Rewritten.{IsRewritten}
@@ -182,4 +181,4 @@ pub record IsShape (ctb_size : ℕ) (shape : SpsShape) : Type 0 where
 -- The items are those of a set. Those of the fields that are taken over are the source's, and the others are exactly what is stated.
 abbrev pub IsReshapedSps : List Item → SpsShape → List Item → Type 0
 IsReshapedSps source shape items =
-    IsRewritten sps_form (set_of taken_sps_fields) (shown_items (set_of taken_sps_fields) source) (stated_sps_items source shape) items
+    IsRewritten sps_form taken_sps_fields (shown_items taken_sps_fields source) (stated_sps_items source shape) items

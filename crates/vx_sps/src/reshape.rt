@@ -1,6 +1,7 @@
 //! The sequence parameter set that is sent for a region or a frame, put together of its source's fields and stated ones.
 
 ghost use Rattle.std.specs.Prelude.{◌≡◌, ◌+◌, ◌<◌, ◌≤◌, [], ◌++◌, length, replicate, OnOk, IfOk};
+ghost use Rattle.vx_sps.specs.Depends.{taken_sps_fields};
 ghost use Rattle.vx_sps.specs.Set.{ctb_size_of};
 ghost use Rattle.vx_sps.specs.inner.Makes.{MakesSet};
 ghost use Rattle.vx_sps.specs.Reshaped as reshaped;
@@ -282,12 +283,18 @@ fn stated_items(alloc: Global, source: &Sps, shape: &SpsShape) -> Result<Fields,
 /// # Errors
 ///
 /// `NoValue` where there is none; want of memory.
-fn rewrite(taken: &Fields, stated: &Fields, into: &mut Fields) -> Result<(), SpellError>
-    requires { into.old ≡ [] }
+fn rewrite(
+    names: &[u16],
+    taken: &Fields,
+    stated: &Fields,
+    into: &mut Fields,
+) -> Result<(), SpellError>
+    requires names { names.now ≡ taken_sps_fields }
+    requires into { into.old ≡ [] }
     ensures { MakesSet taken.now stated.now result into.new }
 {
     let mut rewriter = Rewriter::new(
-        taken_fields(),
+        names,
         Unwritten::new(taken, 0, taken.len()),
         Unwritten::new(stated, 0, stated.len()),
     );
@@ -304,10 +311,11 @@ pub fn reshape_sps(alloc: Global, sps: &Sps, shape: &SpsShape) -> Result<Sps, Al
     requires { IsShape (ctb_size_of sps.now) shape.now }
     ensures { IfOk result (λ reshaped. IsReshapedSps sps.now shape.now reshaped) }
 {
-    let taken = items_of(alloc, sps.fields(), &taken_fields())?;
+    let names = taken_fields(alloc)?;
+    let taken = items_of(alloc, sps.fields(), names.as_slice())?;
     let stated = stated_items(alloc, sps, shape)?;
     let mut items = Fields::new(alloc);
-    match rewrite(&taken, &stated, &mut items) {
+    match rewrite(names.as_slice(), &taken, &stated, &mut items) {
         Ok(()) => Sps::new(alloc, items),
         Err(error) => Err(only_memory(error)),
     }

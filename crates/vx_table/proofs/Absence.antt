@@ -21,7 +21,7 @@ use Rattle.vx_table.specs.Depends.{has, Inside, IsLeft}
 use Rattle.vx_table.specs.Claims.{comes_always, hides_counter}
 use Rattle.vx_table.specs.Shown.{shown_items}
 use Rattle.vx_table.specs.laws.Absence.{IsAbsent, AreZero, HiddenHaveNoItems, is_zero_term, is_zero, never_comes, block_hides, name_hides, with_name, rows_hide, zeros_behind, table_hides, behind_zeros, section_hides, behind_there, sections_hide_where, TablesHide, SectionsHide, HiddenTogether, HiddenPresent, SetsHide, LeftHide}
-use Rattle.vx_table.proofs.Agreeing.{inside_itself, inside_on, with_one}
+use Rattle.vx_table.proofs.Agreeing.{inside_itself, inside_on, with_one, others_too}
 use Rattle.vx_table.proofs.Chains.{there_always}
 use Rattle.vx_table.proofs.Shown.{hidden_here}
 
@@ -37,14 +37,14 @@ zero_other zeros s n v outside are = record {
 }
 
 -- one more number is 0
-zero_more : (zeros s : List ℕ) (n v : ℕ) → v ≡ 0 → AreZero zeros s → AreZero (slice_set zeros n 1) (slice_set s n v)
+zero_more : (zeros s : List ℕ) (n v : ℕ) → v ≡ 0 → AreZero zeros s → AreZero (n ∷ zeros) (slice_set s n v)
 zero_more zeros s n v none are = record {
   at = λ m h. elim (cases_eq m n) [
     | inl is ↦ elim (cases_lt n (length s)) [
       | inl within ↦ get_or-set_at s n m v 0 is within ∙ none
       | inr past ↦ get_or_past (slice_set s n v) m 0 (omega (arith, is, length-set s n v))
     ]
-    | inr is_not ↦ get_or-set_other s n m v 0 is_not ∙ are.at m (ap is_set (sym (get_or-set_other zeros n m 1 0 is_not)) ∙ h)
+    | inr is_not ↦ get_or-set_other s n m v 0 is_not ∙ are.at m (others_too zeros n m is_not h)
   ];
 }
 
@@ -133,7 +133,7 @@ absent_block names zeros presence block inside s test h are = elim (or_cases (ne
 ]
 
 name_grows : (zeros : List ℕ) (name : ℕ) (formula : Formula) → Inside zeros (with_name zeros name formula)
-name_grows zeros name formula = elim (is_zero zeros formula) as (λ b. Inside zeros (cond b (slice_set zeros name 1) zeros)) [ true ↦ with_one zeros name | false ↦ inside_itself zeros ]
+name_grows zeros name formula = elim (is_zero zeros formula) as (λ b. Inside zeros (cond b (name ∷ zeros) zeros)) [ true ↦ with_one zeros name | false ↦ inside_itself zeros ]
 
 zeros_grow : (zeros : List ℕ) (skip len : ℕ) (rows : List Row) → Inside zeros (zeros_behind zeros skip len rows)
 unfolding zeros_behind

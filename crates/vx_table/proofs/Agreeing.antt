@@ -1,7 +1,8 @@
 -- Scopes that agree on a set of names, and what formulas over these are.
-use Rattle.std.proofs.Common.{◌≡◌, ◌≢◌, inl, inr, ℕ, true, false, cond, ◌&&◌, IsTrue, IsFalse, List, length, slice_set, refl, ap, sym, ◌∙◌, arith}
-use Rattle.std.proofs.lemmas.Bool.{both_ways, cases_Bool, cases_eq, cases_lt, and_parts}
+use Rattle.std.proofs.Common.{◌≡◌, ◌≢◌, inl, inr, ℕ, true, false, cond, ◌&&◌, ◌||◌, ◌==◌, IsTrue, IsFalse, List, ◌∷◌, ◌++◌, length, slice_set, refl, ap, sym, ◌∙◌, arith}
+use Rattle.std.proofs.lemmas.Bool.{both_ways, cases_Bool, cases_eq, cases_lt, and_parts, or_cases, eqb-true}
 use Rattle.std.proofs.lemmas.Grind.{get_or-set_at}
+use Rattle.std.proofs.lemmas.List.Folds.{list_any-append}
 use Rattle.std.proofs.lemmas.List.{length-set, get_or-set_other, get_or_past, set_past}
 use Rattle.vx_table.specs.declared.rows.Term.{Term}
 use Rattle.vx_table.specs.declared.rows.Term.TheVariants.{Number, Latest}
@@ -12,7 +13,7 @@ use Rattle.vx_table.specs.declared.rows.Coding.TheVariants.{Fixed, Golomb, Signe
 use Rattle.vx_table.specs.declared.rows.Limits.{Limits}
 use Rattle.vx_table.specs.declared.rows.Limits.TheVariants as ranges
 use Rattle.vx_table.specs.declared.rows.Cell.{Cell}
-use Rattle.vx_table.specs.Scope.{is_set, latest, value}
+use Rattle.vx_table.specs.Scope.{latest, value}
 use Rattle.vx_table.specs.Forms.{has_value, coding_at, limits_at, cell_at}
 use Rattle.vx_table.specs.Depends.{has, Inside, Agree}
 use Rattle.vx_table.specs.Claims.{knows, knows_formula, knows_width, knows_range, knows_cell, grown}
@@ -55,10 +56,17 @@ agree_outside shown s n v outside = record {
   same = λ m h. sym (get_or-set_other s n m v 0 (λ is. both_ways _ (ap (has shown) is ∙ outside) h));
 }
 
+-- a name of a set with one more, and of two sets together
+pub others_too : (names : List ℕ) (n m : ℕ) → m ≢ n → IsTrue (has (n ∷ names) m) → IsTrue (has names m)
+others_too names n m is_not h = elim (or_cases (n == m) (has names m) h) [ inl is ↦ absurd (is_not (sym (eqb-true n m is))) | inr more ↦ more ]
+
+pub has_either : (names more : List ℕ) (n : ℕ) → has (names ++ more) n ≡ (has names n || has more n)
+has_either names more n = list_any-append (λ name. name == n) names more
+
 -- what more is known behind a name
 pub grown_other : (shown known : List ℕ) (n m : ℕ) → m ≢ n → IsTrue (has (grown shown known n) m) → IsTrue (has known m)
 grown_other shown known n m is_not h = elim (cases_Bool (has shown n)) [
-  | inl it_is ↦ ap is_set (sym (get_or-set_other known n m 1 0 is_not)) ∙ (rw it_is at h)
+  | inl it_is ↦ others_too known n m is_not (rw it_is at h)
   | inr it_is_not ↦ rw it_is_not at h
 ]
 
@@ -73,19 +81,11 @@ inside_grown {shown} {known} n inside = record {
   ];
 }
 
-pub with_one : (names : List ℕ) (n : ℕ) → Inside names (slice_set names n 1)
-with_one names n = record {
-  has_too = λ m h. elim (cases_eq m n) [
-    | inl is ↦ elim (cases_lt n (length names)) [
-      | inl within ↦ ap is_set (get_or-set_at names n m 1 0 is within)
-      | inr past ↦ rw (set_past names n 1 past) h
-    ]
-    | inr is_not ↦ ap is_set (get_or-set_other names n m 1 0 is_not) ∙ h
-  ];
-}
+pub with_one : (names : List ℕ) (n : ℕ) → Inside names (n ∷ names)
+with_one names n = record { has_too = λ m h. elim (n == m) as (λ b. (b || has names m) ≡ true) [ true ↦ refl | false ↦ h ] }
 
 pub grows : (shown known : List ℕ) (n : ℕ) → Inside known (grown shown known n)
-grows shown known n = elim (has shown n) as (λ b. Inside known (cond b (slice_set known n 1) known)) [ true ↦ with_one known n | false ↦ inside_itself known ]
+grows shown known n = elim (has shown n) as (λ b. Inside known (cond b (n ∷ known) known)) [ true ↦ with_one known n | false ↦ inside_itself known ]
 
 -- a term and a formula over known names
 same_term : {known s t : List ℕ} (a : Term) → Agree known s t → knows known a ≡ true → latest s a ≡ latest t a

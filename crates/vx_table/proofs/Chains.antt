@@ -1,5 +1,5 @@
 -- How what is known goes along parts: tables, steps on the scope, parts one behind another.
-use Rattle.std.proofs.Common.{◌≡◌, inl, inr, ℕ, true, false, cond, not, ◌==◌, List, [], ◌∷◌, refl}
+use Rattle.std.proofs.Common.{◌≡◌, inl, inr, ℕ, true, false, cond, not, ◌==◌, List, [], ◌∷◌, ◌++◌, refl}
 use Rattle.std.proofs.lemmas.Bool.{cases_Bool, and_parts}
 use Rattle.vx_table.specs.declared.rows.Term.TheVariants.{Number}
 use Rattle.vx_table.specs.declared.rows.Formula.TheVariants as formulas
@@ -8,7 +8,7 @@ use Rattle.vx_table.specs.declared.rows.Presence.TheVariants.{When}
 use Rattle.vx_table.specs.Scope.{value}
 use Rattle.vx_table.specs.Forms.{Form, done, present, form_of}
 use Rattle.vx_table.specs.Parts.{Section, sections_form}
-use Rattle.vx_table.specs.Depends.{at_ends, with_all, set_of, DependsOnlyOn, Carries}
+use Rattle.vx_table.specs.Depends.{at_ends, DependsOnlyOn, Carries}
 use Rattle.vx_table.specs.Claims.{hides, comes_always, table_depends, section_depends, behind_section, sections_chain, behind_sections, sections_depend_only_on}
 use Rattle.vx_table.specs.laws.Chains.{TablesCarry, SectionsCarry, SetsCarry, StepsCarry, CarriesTogether, CarriesPresent, ChainsDepend}
 use Rattle.vx_table.proofs.Agreeing.{inside_itself, inside_on, inside_grown, grows}
@@ -52,7 +52,7 @@ carries_present shown before after presence form knows carries = record {
 
 pub chains_depend : ChainsDepend
 chains_depend given shown after form carries = record {
-  alike = λ s t agree. alike_less carries.grows (carries.alike (inside_with_all (set_of given) shown) s t agree);
+  alike = λ s t agree. alike_less carries.grows (carries.alike (inside_with_all given shown) s t agree);
 }
 
 -- ---- tables one after another
@@ -95,4 +95,4 @@ sections_carry shown before (section ∷ more) test =
 -- What the test of a structure says.
 pub structure_depends_only_on : (given shown : List ℕ) (sections : List Section) → sections_depend_only_on given shown sections ≡ true → DependsOnlyOn given shown (sections_form sections)
 structure_depends_only_on given shown sections test =
-    chains_depend given shown (behind_sections (with_all (set_of given) shown) (set_of given) sections) (sections_form sections) (sections_carry (with_all (set_of given) shown) (set_of given) sections test)
+    chains_depend given shown (behind_sections (given ++ shown) given sections) (sections_form sections) (sections_carry (given ++ shown) given sections test)

@@ -1,5 +1,5 @@
 -- Where the test of a table holds, its forms at scopes that agree are alike.
-use Rattle.std.proofs.Common.{◌≡◌, inl, inr, ℕ, ℤ, zero, suc, ◌+◌, ◌-◌, ◌≤◌, min, Bool, true, false, cond, not, ◌&&◌, ◌||◌, ◌==◌, IsFalse, List, [], ◌∷◌, length, take, slice_set, refl, subst, arith}
+use Rattle.std.proofs.Common.{◌≡◌, inl, inr, ℕ, ℤ, zero, suc, ◌+◌, ◌-◌, ◌≤◌, min, Bool, true, false, cond, not, ◌&&◌, ◌||◌, ◌==◌, IsFalse, List, [], ◌∷◌, ◌++◌, length, take, slice_set, refl, ap, subst, ◌∙◌, arith}
 use Rattle.std.proofs.lemmas.List.{take_all}
 use Rattle.std.proofs.lemmas.Bool.{cases_Bool, and_parts, or_cases, not-true, and_from}
 use Rattle.vx_table.specs.declared.rows.Formula.{Formula}
@@ -10,9 +10,9 @@ use Rattle.vx_table.specs.declared.rows.Row.{Row}
 use Rattle.vx_table.specs.declared.rows.Row.TheVariants.{Field, Block, Name}
 use Rattle.vx_table.specs.Scope.{value, natural}
 use Rattle.vx_table.specs.Forms.{Form, done, field, ◌>>=◌, has_value, coding_at, cell_at, after, one_field, turns, present, part, form_of}
-use Rattle.vx_table.specs.Depends.{has, Inside, Agree, Alike, at_ends, both, hidden_left, hidden_right, IsLeft, with_all, set_of, DependsOnlyOn}
+use Rattle.vx_table.specs.Depends.{has, Inside, Agree, Alike, at_ends, both, hidden_left, hidden_right, IsLeft, DependsOnlyOn}
 use Rattle.vx_table.specs.Claims.{knows_formula, knows_cell, knows_presence, hides_counter, hides_row, hides, grown, behind_field, within_block, block_depends, depends, behind_rows, table_depends, behind_table, depends_only_on}
-use Rattle.vx_table.proofs.Agreeing.{inside_itself, inside_on, agree_itself, agree_back, agree_on, agree_less, agree_set, agree_outside, grown_other, inside_grown, with_one, grows, same_value, same_cell, valued}
+use Rattle.vx_table.proofs.Agreeing.{inside_itself, inside_on, agree_itself, agree_back, agree_on, agree_less, agree_set, agree_outside, has_either, grown_other, inside_grown, grows, same_value, same_cell, valued}
 
 pub alike_less : {shown known more : List ℕ} {f g : Form (List ℕ)} → Inside known more → Alike shown more f g → Alike shown known f g
 alike_less inside (at_ends agree) = at_ends (agree_less inside agree)
@@ -265,13 +265,12 @@ unfolding form_of
 left_table shown rows s hide = left_part shown 0 (length rows) rows s (rw (take_all (0 + length rows) rows (omega arith)) hide)
 
 -- a set lies within itself with more names
-pub inside_with_all : (names more : List ℕ) → Inside names (with_all names more)
-inside_with_all names [] = inside_itself names
-inside_with_all names (n ∷ more) = record { has_too = λ m h. (inside_with_all (slice_set names n 1) more).has_too m ((with_one names n).has_too m h) }
+pub inside_with_all : (names more : List ℕ) → Inside names (names ++ more)
+inside_with_all names more = record { has_too = λ n h. has_either names more n ∙ ap (λ b. b || has more n) h }
 
 -- What the test of a table says.
 pub table_depends_only_on : (given shown : List ℕ) (rows : List Row) → depends_only_on given shown rows ≡ true → DependsOnlyOn given shown (form_of rows)
 table_depends_only_on given shown rows test = record {
-  alike = λ s t agree. alike_less (table_grows (with_all (set_of given) shown) (set_of given) rows)
-      (alike_table (with_all (set_of given) shown) (set_of given) rows s t (inside_with_all (set_of given) shown) test agree);
+  alike = λ s t agree. alike_less (table_grows (given ++ shown) given rows)
+      (alike_table (given ++ shown) given rows s t (inside_with_all given shown) test agree);
 }

@@ -1,25 +1,21 @@
 -- How a structure of tables is rewritten, group by group, and how what stands in place of a group goes through it.
-use Rattle.std.proofs.Common.{◌≡◌, inl, inr, ℕ, ℤ, true, IsTrue, List, [], ◌∷◌, ◌++◌, length, slice_index, slice_set, ap, sym, subst, ◌∙◌}
+use Rattle.std.proofs.Common.{◌≡◌, inl, inr, ℕ, ℤ, true, List, [], ◌∷◌, ◌++◌, length, slice_index, ap, sym, subst, ◌∙◌}
 use Rattle.std.proofs.Math.Path.{fun_ext}
-use Rattle.std.proofs.lemmas.Bool.{both_ways, cases_eq}
-use Rattle.std.proofs.lemmas.List.{get_or-set_other}
-use Rattle.std.proofs.lemmas.List.Elements.{All-nil}
+use Rattle.std.proofs.lemmas.Bool.{cases_eq, false≢true}
 use Rattle.vx_bits.specs.declared.list.Item.{Item}
-use Rattle.vx_table.specs.Scope.{fresh, is_set}
-use Rattle.std.specs.Prelude.{◌==◌, false}
+use Rattle.vx_table.specs.Scope.{fresh}
 use Rattle.vx_table.specs.Parts.{Section, sections_form}
 use Rattle.vx_table.specs.Values.{Follows, Parted}
 use Rattle.vx_table.specs.EachField.{sections_pass}
-use Rattle.vx_table.specs.Depends.{has, Inside, with_all, set_of, Agree}
+use Rattle.vx_table.specs.Depends.{Inside, Agree}
 use Rattle.vx_table.specs.Claims.{sections_chain, behind_sections, sections_depend_only_on, sections_hide}
 use Rattle.vx_table.specs.Named.{named_by_all}
 use Rattle.vx_table.specs.laws.Again.{shows_row}
 use Rattle.vx_table.specs.Rewrites.{Takes, Rewrites}
-use Rattle.vx_table.proofs.Agreeing.{inside_itself}
+use Rattle.vx_table.proofs.Agreeing.{inside_itself, others_too}
 use Rattle.vx_table.proofs.Chains.{sections_carry, structure_depends_only_on}
 use Rattle.vx_table.proofs.Again.{sections_show}
 use Rattle.vx_table.proofs.Joined.{parted}
-use Rattle.vx_table.proofs.Loading.{number_of_none}
 use Rattle.vx_table.proofs.Rewrites.{sections_leave, sections_together, copied_rewrites, replaced_rewrites, rewrites_together, takes_again, takes_together}
 
 -- ---- groups
@@ -58,42 +54,36 @@ abbrev pub AgreeOn : List ℕ → List ℕ → List ℕ → Type 0
 AgreeOn [] s t = Unit {0}
 AgreeOn (n ∷ more) s t = (slice_index s n ≡ slice_index t n) × AgreeOn more s t
 
-nothing_has : (n : ℕ) → IsTrue (has fresh n) → ⊥
-nothing_has n h = both_ways _ (ap is_set (number_of_none n [] (All-nil (λ item. (item.field == n) ≡ false)))) h
+pub inside_nothing : (names : List ℕ) → Inside [] names
+inside_nothing names = record { has_too = λ n h. absurd (false≢true h) }
 
-pub inside_nothing : (names : List ℕ) → Inside fresh names
-inside_nothing names = record { has_too = λ n h. absurd (nothing_has n h) }
+pub agree_nothing : (s t : List ℕ) → length s ≡ length t → Agree [] s t
+agree_nothing s t size = record { size = size; same = λ n h. absurd (false≢true h) }
 
-pub agree_nothing : (s t : List ℕ) → length s ≡ length t → Agree fresh s t
-agree_nothing s t size = record { size = size; same = λ n h. absurd (nothing_has n h) }
-
-agree_more : {names s t : List ℕ} (n : ℕ) → Agree names s t → slice_index s n ≡ slice_index t n → Agree (slice_set names n 1) s t
+agree_more : {names s t : List ℕ} (n : ℕ) → Agree names s t → slice_index s n ≡ slice_index t n → Agree (n ∷ names) s t
 agree_more {names} {s} {t} n agree same = record {
   size = agree.size;
   same = λ m h. elim (cases_eq m n) [
     | inl is ↦ ap (λ x. slice_index s x) is ∙ same ∙ ap (λ x. slice_index t x) (sym is)
-    | inr is_not ↦ agree.same m (ap is_set (sym (get_or-set_other names n m 1 0 is_not)) ∙ h)
+    | inr is_not ↦ agree.same m (others_too names n m is_not h)
   ];
 }
 
-agree_all : {names s t : List ℕ} (given : List ℕ) → Agree names s t → AgreeOn given s t → Agree (with_all names given) s t
-agree_all [] agree same = agree
-agree_all (n ∷ more) agree same = agree_all more (agree_more n agree same.0) same.1
-
-pub agree_given : (given : List ℕ) {s t : List ℕ} → length s ≡ length t → AgreeOn given s t → Agree (set_of given) s t
-agree_given given {s} {t} size same = agree_all given (agree_nothing s t size) same
+pub agree_given : (given : List ℕ) {s t : List ℕ} → length s ≡ length t → AgreeOn given s t → Agree given s t
+agree_given [] {s} {t} size same = agree_nothing s t size
+agree_given (n ∷ more) size same = agree_more n (agree_given more size same.1) same.0
 
 -- ---- what goes through a group
 
 -- What goes through at one scope goes through at each that agrees with it on the numbers that a group reads.
 pub takes_at : (given : List ℕ) (sections : List Section) (s t : List ℕ) {items : List Item} → sections_depend_only_on given (named_by_all sections) sections ≡ true
-    → sections_pass (shows_row (with_all (set_of given) (named_by_all sections))) sections ≡ true → Agree (set_of given) s t → Takes (sections_form sections s) items
+    → sections_pass (shows_row (given ++ named_by_all sections)) sections ≡ true → Agree given s t → Takes (sections_form sections s) items
     → Takes (sections_form sections t) items
 takes_at given sections s t {items} depends shows agree takes =
-    let shown : List ℕ = with_all (set_of given) (named_by_all sections) in
+    let shown : List ℕ = given ++ named_by_all sections in
     let alike = (structure_depends_only_on given (named_by_all sections) sections depends).alike s t agree in
     let all = sections_show shown sections shows in
-    takes_again shown (set_of given) (sections_form sections s) (sections_form sections t) items alike (all.at s) (all.at t) takes
+    takes_again shown given (sections_form sections s) (sections_form sections t) items alike (all.at s) (all.at t) takes
 
 -- one group behind another
 pub groups_take : (first more : List Section) (s : List ℕ) {here others : List Item} → (before : Takes (sections_form first s) here) → Takes (sections_form more before.end) others

@@ -1,15 +1,14 @@
 -- That a structure can be rewritten, part by part.
-use Rattle.std.proofs.Common.{◌≡◌, ◌≢◌, ℕ, ℤ, zero, suc, ◌+◌, ◌<◌, Bool, true, false, cond, ◌==◌, IsTrue, IsFalse, List, [], ◌∷◌, ◌++◌, length, slice_set, refl, ap, sym, ◌∙◌, arith}
+use Rattle.std.proofs.Common.{◌≡◌, ℕ, ℤ, zero, suc, ◌+◌, ◌<◌, Bool, true, false, cond, ◌==◌, IsFalse, List, [], ◌∷◌, ◌++◌, length, slice_set, refl, ap, sym, ◌∙◌, arith}
 use Rattle.std.specs.Prelude.{not, filter, All}
 use Rattle.std.proofs.Math.Path.{fun_ext}
 use Rattle.std.proofs.lemmas.Bool.{both_ways, and_parts}
-use Rattle.std.proofs.lemmas.List.{get_or-set_other}
 use Rattle.std.proofs.lemmas.List.Elements.{filter-append, All-cons, All-nil}
 use Rattle.vx_bits.specs.declared.list.Item.{Item}
 use Rattle.vx_table.specs.declared.rows.Formula.{Formula}
 use Rattle.vx_table.specs.declared.rows.Cell.{Cell}
 use Rattle.vx_table.specs.declared.rows.Presence.TheVariants.{When}
-use Rattle.vx_table.specs.Scope.{fresh, is_set, value}
+use Rattle.vx_table.specs.Scope.{fresh, value}
 use Rattle.vx_table.specs.Forms.{Form, done, field, ◌>>=◌, has_value, turns, present, form_of}
 use Rattle.vx_table.specs.Parts.{Section, sections_form}
 use Rattle.vx_table.specs.Spelling.{item_of, items_along}
@@ -21,7 +20,7 @@ use Rattle.vx_table.specs.Shown.{shown_items}
 use Rattle.vx_table.specs.laws.Again.{AllShown, AlwaysShown}
 use Rattle.vx_table.specs.Rewritten.{other_items}
 use Rattle.vx_table.specs.Rewrites.{Takes, Goes, WhatGoesIsRewritten, CopiedRewrites, ReplacedRewrites, Admits, no_more, at_shown, at_other, MixedRewrites, MayHaveGiven, GivenGoes, RewritesTogether, AbsentRewrites, PresentRewrites, NothingRewrites, AreValues, ValuesTake, TakesAgain, TakesTogether, in_all_turns, TurnsTake, RewrittenIsRead, TablesLeave, SectionsLeave, LeavesTogether, LeavesPresent, LeavesAgree, SectionsTogether}
-use Rattle.vx_table.proofs.Agreeing.{inside_itself, agree_itself, agree_back, agree_on, agree_less, agree_set, agree_outside, same_value}
+use Rattle.vx_table.proofs.Agreeing.{inside_itself, agree_itself, agree_back, agree_on, agree_less, agree_set, agree_outside, others_too, same_value}
 use Rattle.vx_table.proofs.Dependence.{left_then, left_present, left_table}
 use Rattle.vx_table.proofs.Again.{follows_again, all_shown_more}
 use Rattle.vx_table.proofs.Joined.{joined, items_joined}
@@ -308,18 +307,15 @@ takes_together first more here others before rest =
     }
 
 -- what is known with one name more, of a name that isn't it
-known_other : (known : List ℕ) (n m : ℕ) → m ≢ n → IsTrue (has (slice_set known n 1) m) → IsTrue (has known m)
-known_other known n m is_not h = ap is_set (sym (get_or-set_other known n m 1 0 is_not)) ∙ h
-
 take_turns : (shown known after : List ℕ) (form : List ℕ → Form (List ℕ)) (counter turn more : ℕ) (s t : List ℕ) (items : ℕ → List Item) → IsFalse (has known counter)
-    → Inside (slice_set known counter 1) shown → Carries shown (slice_set known counter 1) after form → AlwaysShown shown form → Leaves known form → Agree known s t
+    → Inside (counter ∷ known) shown → Carries shown (counter ∷ known) after form → AlwaysShown shown form → Leaves known form → Agree known s t
     → ((i : ℕ) → i < turn + more → Takes (form (slice_set s counter i)) (items i)) → Takes (turns form counter turn more t) (in_all_turns items turn more)
 unfolding turns
 take_turns shown known after form counter turn zero s t items outside inside carries all leaves agree each = record { values = []; end = t; follows = to_end; all = refl }
 take_turns shown known after form counter turn (suc more) s t items outside inside carries all leaves agree each =
     let here : List ℕ = slice_set s counter turn in
     let there : List ℕ = slice_set t counter turn in
-    let same : Agree (slice_set known counter 1) here there = agree_set counter turn (λ m is_not h. known_other known counter m is_not h) agree in
+    let same : Agree (counter ∷ known) here there = agree_set counter turn (λ m is_not h. others_too known counter m is_not h) agree in
     let first = takes_again shown after (form here) (form there) (items turn) (carries.alike inside here there same) (all.at here) (all.at there) (each turn (omega arith)) in
     let behind : Agree known s first.end = agree_on agree (agree_on (agree_outside known t counter turn outside) (left_end (leaves.at there) first.follows)) in
     let rest = take_turns shown known after form counter (turn + 1) more s first.end items outside inside carries all leaves behind (λ i few. each i (omega arith)) in

@@ -13,7 +13,7 @@ use Rattle.vx_table.specs.Forms.{Form, field, coding_at, cell_at, form_of}
 use Rattle.vx_table.specs.Parts.{Section, sections_form}
 use Rattle.vx_table.specs.Spelling.{HasCode}
 use Rattle.vx_table.specs.Values.{Follows, to_end, through}
-use Rattle.vx_table.specs.Depends.{has, with_all, set_of, Agree, Alike, at_ends, both, hidden_left, hidden_right}
+use Rattle.vx_table.specs.Depends.{has, Agree, Alike, at_ends, both, hidden_left, hidden_right}
 use Rattle.vx_table.specs.Kept.{stands_for_field, kept_item, kept_along}
 use Rattle.vx_table.proofs.Items.{same_value}
 use Rattle.vx_table.proofs.EachField.{each_of_rows, each_of_sections}
@@ -40,14 +40,14 @@ unfolding star_tells
 starred shown c s h = λ stands. same_tests c.kept (has shown c.field) (rw (sym (standing s c.coding) ∙ stands) at h)
 
 -- What the test of a table and of a structure says.
-pub table_keeps_only : (given shown : List ℕ) (rows : List Row) → stars_tell (with_all (set_of given) shown) rows ≡ true → KeepsOnly given shown (form_of rows)
+pub table_keeps_only : (given shown : List ℕ) (rows : List Row) → stars_tell (given ++ shown) rows ≡ true → KeepsOnly given shown (form_of rows)
 table_keeps_only given shown rows h =
-    let known = with_all (set_of given) shown in
+    let known = given ++ shown in
     record { keeps = λ s. each_of_rows (IsKeptWhereShown known) (star_tells known) (λ c t. starred known c t) rows s h }
 
-pub structure_keeps_only : (given shown : List ℕ) (sections : List Section) → sections_stars_tell (with_all (set_of given) shown) sections ≡ true → KeepsOnly given shown (sections_form sections)
+pub structure_keeps_only : (given shown : List ℕ) (sections : List Section) → sections_stars_tell (given ++ shown) sections ≡ true → KeepsOnly given shown (sections_form sections)
 structure_keeps_only given shown sections h =
-    let known = with_all (set_of given) shown in
+    let known = given ++ shown in
     record { keeps = λ s. each_of_sections (IsKeptWhereShown known) (star_tells known) (λ c t. starred known c t) sections s h }
 
 -- what stands for no field has one value

@@ -1,14 +1,19 @@
 -- The test of a table, and what is known behind it, by its first row.
-use Rattle.std.proofs.Common.{◌≡◌, ℕ, zero, suc, ◌+◌, ◌-◌, ◌≤◌, min, Bool, true, false, ◌&&◌, List, [], ◌∷◌, ◌++◌, length, take, drop, refl, ap, sym, ◌∙◌, arith}
-use Rattle.std.specs.Prelude.{is_some}
+use Rattle.std.proofs.Common.{◌≡◌, ℕ, zero, suc, ◌+◌, ◌-◌, ◌*◌, ◌≤◌, min, Bool, true, false, ◌&&◌, List, [], ◌∷◌, ◌++◌, length, take, drop, refl, ap, sym, ◌∙◌, arith}
+use Rattle.std.proofs.Math.Bool.{and-true}
 use Rattle.std.proofs.Math.Path.{fun_ext}
 use Rattle.std.proofs.lemmas.List.{take-append-le, take-append-drop, length-take-le, length-drop}
 use Rattle.vx_table.specs.declared.rows.Formula.{Formula}
 use Rattle.vx_table.specs.declared.rows.Cell.{Cell}
 use Rattle.vx_table.specs.declared.rows.Presence.{Presence}
+use Rattle.vx_table.specs.declared.rows.Presence.TheVariants.{When, Repeat}
 use Rattle.vx_table.specs.declared.rows.Row.{Row}
 use Rattle.vx_table.specs.declared.rows.Row.TheVariants.{Field, Block, Name}
-use Rattle.vx_table.specs.Claims.{hides, grown, behind_field, block_depends, field_depends, name_depends, depends, table_depends, rows_depend, behind_rows, behind_table, known_if}
+use Rattle.vx_table.specs.declared.parts.Part.{Part}
+use Rattle.vx_table.specs.Forms.{has_value}
+use Rattle.vx_table.specs.Parts.{Section}
+use Rattle.vx_table.specs.Claims.{hides_counter, hides, knows_presence, grown, behind_field, within_block, block_depends, field_depends, name_depends, depends, table_depends, rows_depend, behind_rows, behind_table, sections_chain}
+use Rattle.vx_table.specs.inner.Names.{chain}
 
 -- the rows behind the first few
 depends-drop : (shown known : List ℕ) (skip len : ℕ) (rows : List Row) → depends shown known skip len rows ≡ depends shown known 0 len (drop skip rows)
@@ -108,7 +113,58 @@ unfolding behind_rows behind_table
 behind-none shown known [] none = refl
 behind-none shown known (row ∷ rows) none = absurd (omega arith)
 
--- a test has an answer where it holds
-pub known_where : (holds : Bool) (known : List ℕ) → is_some (known_if holds known) ≡ holds
-known_where true known = refl
-known_where false known = refl
+-- ---- the test of rows and of parts behind them, by the first row
+
+and_on : (a b c : Bool) → ((a && b) && c) ≡ (a && (b && c))
+and_on true b c = refl
+and_on false b c = refl
+
+pub chain-none : (shown known : List ℕ) (rows : List Row) (more : List Section) → length rows ≡ 0 → chain shown known rows more ≡ sections_chain shown known more
+chain-none shown known rows more none = rw (test-none shown known rows none, behind-none shown known rows none) refl
+
+pub chain-field : (shown known : List ℕ) (rows : List Row) (more : List Section) (c : Cell Formula)
+    → chain shown known (Field c ∷ rows) more ≡ (field_depends shown known c && chain shown (behind_field shown known c) rows more)
+chain-field shown known rows more c = rw (test-field shown known c rows, behind-first-field shown known c rows)
+    (and_on (field_depends shown known c) (table_depends shown (behind_field shown known c) rows) (sections_chain shown (behind_table shown (behind_field shown known c) rows) more))
+
+pub chain-name : (shown known : List ℕ) (rows : List Row) (more : List Section) (name : ℕ) (formula : Formula)
+    → chain shown known (Name name formula ∷ rows) more ≡ (name_depends shown known name formula && chain shown (grown shown known name) rows more)
+chain-name shown known rows more name formula = rw (test-name shown known name formula rows, behind-first-name shown known name formula rows)
+    (and_on (name_depends shown known name formula) (table_depends shown (grown shown known name) rows) (sections_chain shown (behind_table shown (grown shown known name) rows) more))
+
+pub chain-block : (shown known : List ℕ) (rows : List Row) (more : List Section) (presence : Presence) (n : ℕ)
+    → chain shown known (Block presence n ∷ rows) more
+    ≡ (rows_depend shown known presence (take (min n (length rows)) rows) && chain shown known (drop (min n (length rows)) rows) more)
+chain-block shown known rows more presence n = rw (test-block shown known presence n rows, behind-first-block shown known presence n rows)
+    (and_on (rows_depend shown known presence (take (min n (length rows)) rows)) (table_depends shown known (drop (min n (length rows)) rows))
+    (sections_chain shown (behind_table shown known (drop (min n (length rows)) rows)) more))
+
+-- of a field with a value, and of one without
+pub behind-valued : (shown known : List ℕ) (c : Cell Formula) → has_value c.coding ≡ true → behind_field shown known c ≡ grown shown known c.field
+unfolding behind_field
+behind-valued shown known c has = rw has refl
+
+pub behind-gap : (shown known : List ℕ) (c : Cell Formula) → has_value c.coding ≡ false → behind_field shown known c ≡ known
+unfolding behind_field
+behind-gap shown known c none = rw none refl
+
+-- of a block that isn't hidden
+block-known : (shown known : List ℕ) (presence : Presence) (rows : List Row) → (hides_counter shown presence && hides shown rows) ≡ false → knows_presence known presence ≡ true
+    → rows_depend shown known presence rows ≡ chain shown (within_block shown known presence) rows []
+block-known shown known presence rows there knows = rw (there, knows) (sym (and-true (table_depends shown (within_block shown known presence) rows)))
+
+pub block-when : (shown known : List ℕ) {presence : Presence} {holds : Formula} (rows : List Row) → presence ≡ When holds
+    → (hides_counter shown presence && hides shown rows) ≡ false → knows_presence known presence ≡ true → rows_depend shown known presence rows ≡ chain shown known rows []
+unfolding within_block
+block-when shown known {presence} rows is there knows = block-known shown known presence rows there knows ∙ ap (λ p. chain shown (within_block shown known p) rows []) is
+
+pub block-repeat : (shown known : List ℕ) {presence : Presence} {counter : ℕ} {times : Formula} (rows : List Row) → presence ≡ Repeat counter times
+    → (hides_counter shown presence && hides shown rows) ≡ false → knows_presence known presence ≡ true
+    → rows_depend shown known presence rows ≡ chain shown (grown shown known counter) rows []
+unfolding within_block
+block-repeat shown known {presence} rows is there knows = block-known shown known presence rows there knows ∙ ap (λ p. chain shown (within_block shown known p) rows []) is
+
+-- how long the tests of parts are at most
+abbrev pub weight : List Part → ℕ
+weight [] = 0
+weight (part ∷ parts) = 3 * length part.rows.now + 4 + weight parts

@@ -1,7 +1,6 @@
 -- The tests of what structures depend on, over rows. What they find is told by their laws, so that a reader need not believe how
 -- they find it.
-use Rattle.std.specs.Prelude.{ℕ, zero, suc, ◌-◌, min, Bool, true, false, cond, not, ◌&&◌, ◌||◌, List, [], ◌∷◌, length, take, slice_set}
-use Rattle.std.specs.Prelude.{Option, Some, None}
+use Rattle.std.specs.Prelude.{ℕ, zero, suc, ◌-◌, min, Bool, true, false, cond, not, ◌&&◌, ◌||◌, List, [], ◌∷◌, ◌++◌, length, take}
 use Rattle.vx_table.specs.declared.rows.Term.{Term}
 use Rattle.vx_table.specs.declared.rows.Term.TheVariants.{Number, Latest}
 use Rattle.vx_table.specs.declared.rows.Formula.{Formula}
@@ -19,7 +18,7 @@ use Rattle.vx_table.specs.declared.rows.Row.TheVariants.{Field, Block, Name}
 use Rattle.vx_table.specs.Scope.{is_set}
 use Rattle.vx_table.specs.Forms.{has_value}
 use Rattle.vx_table.specs.Parts.{Section}
-use Rattle.vx_table.specs.Depends.{has, with_all, set_of}
+use Rattle.vx_table.specs.Depends.{has}
 
 -- a formula reads only names of a set
 abbrev pub knows : List ℕ → Term → Bool
@@ -81,7 +80,7 @@ hides shown (row ∷ rows) = hides_row shown row && hides shown rows
 
 -- what is known behind a row that gives this name a number, and within a block
 abbrev pub grown : List ℕ → List ℕ → ℕ → List ℕ
-grown shown known n = cond (has shown n) (slice_set known n 1) known
+grown shown known n = cond (has shown n) (n ∷ known) known
 
 unfoldable pub behind_field : List ℕ → List ℕ → Cell Formula → List ℕ
 behind_field shown known c = cond (has_value c.coding) (grown shown known c.field) known
@@ -158,16 +157,12 @@ abbrev pub behind_sections : List ℕ → List ℕ → List Section → List ℕ
 behind_sections shown known [] = known
 behind_sections shown known (section ∷ more) = behind_sections shown (behind_section shown known section) more
 
--- what a test answers: what is known behind, where it holds
-abbrev pub known_if : Bool → List ℕ → Option (List ℕ)
-known_if holds known = cond holds (Some known) None
-
 -- the test of a table, and of a structure
 abbrev pub depends_only_on : (given shown : List ℕ) → List Row → Bool
-depends_only_on given shown rows = table_depends (with_all (set_of given) shown) (set_of given) rows
+depends_only_on given shown rows = table_depends (given ++ shown) given rows
 
 abbrev pub sections_depend_only_on : (given shown : List ℕ) → List Section → Bool
-sections_depend_only_on given shown sections = sections_chain (with_all (set_of given) shown) (set_of given) sections
+sections_depend_only_on given shown sections = sections_chain (given ++ shown) given sections
 
 -- the test that a structure leaves names alone
 abbrev pub hides_section : List ℕ → Section → Bool

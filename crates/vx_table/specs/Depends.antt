@@ -1,19 +1,12 @@
 -- What a structure depends on: on which numbers of the scope that it is walked at, and on no others. Our own.
-use Rattle.std.specs.Prelude.{◌≡◌, ℕ, ℤ, Bool, IsTrue, IsFalse, List, [], ◌∷◌, length, slice_index, slice_set}
+use Rattle.std.specs.Prelude.{◌≡◌, ℕ, ℤ, Bool, ◌==◌, IsTrue, IsFalse, List, ◌++◌, length, slice_index}
+use Rattle.std.specs.List.{list_any}
 use Rattle.vx_table.specs.declared.rows.Cell.{Cell}
-use Rattle.vx_table.specs.Scope.{fresh, is_set}
 use Rattle.vx_table.specs.Forms.{Form, done, field}
 
--- A set of fields and names is a scope in which they have a number.
+-- A set of fields and names is a list of them, in which this one is.
 abbrev pub has : List ℕ → ℕ → Bool
-has names n = is_set (slice_index names n)
-
-abbrev pub with_all : List ℕ → List ℕ → List ℕ
-with_all names [] = names
-with_all names (n ∷ more) = with_all (slice_set names n 1) more
-
-abbrev pub set_of : List ℕ → List ℕ
-set_of numbers = with_all fresh numbers
+has names n = list_any (λ name. name == n) names
 
 -- One set lies within another.
 pub record Inside (names more : List ℕ) : Type 0 where
@@ -37,7 +30,7 @@ pub data Alike (shown known : List ℕ) : Form (List ℕ) → Form (List ℕ) �
 
 -- The shown fields and names of a form depend on the given numbers alone: at scopes that agree on these, it is alike.
 pub record DependsOnlyOn (given shown : List ℕ) (form : List ℕ → Form (List ℕ)) : Type 0 where
-  pub alike : (s t : List ℕ) → Agree (set_of given) s t → Alike (with_all (set_of given) shown) (set_of given) (form s) (form t)
+  pub alike : (s t : List ℕ) → Agree given s t → Alike (given ++ shown) given (form s) (form t)
 
 -- The same, with what is known before it and behind it: at scopes that agree on the one, all of it shown, the forms are alike and
 -- agree on the other at their ends.

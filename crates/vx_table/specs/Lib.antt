@@ -18,4 +18,5 @@ pub mod Rewritten
 pub mod Sent
 pub mod Rewrites
 pub mod Loaded
+pub mod inner
 pub mod laws

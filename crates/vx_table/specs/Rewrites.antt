@@ -142,7 +142,7 @@ in_all_turns items turn (suc more) = items turn ++ in_all_turns items (turn + 1)
 -- block leaves alone what it knows but the counter
 abbrev pub TurnsTake : Type 0
 TurnsTake = (shown known after : List ℕ) (form : List ℕ → Form (List ℕ)) (counter times : ℕ) (s t : List ℕ) (items : ℕ → List Item)
-    → IsFalse (has known counter) → Inside (slice_set known counter 1) shown → Carries shown (slice_set known counter 1) after form
+    → IsFalse (has known counter) → Inside (counter ∷ known) shown → Carries shown (counter ∷ known) after form
     → AlwaysShown shown form → Leaves known form → Agree known s t
     → ((turn : ℕ) → turn < times → Takes (form (slice_set s counter turn)) (items turn))
     → Takes (turns form counter 0 times t) (in_all_turns items 0 times)

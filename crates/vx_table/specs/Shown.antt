@@ -1,5 +1,5 @@
 -- The shown fields of a structure, their items and how they are coded, and what two structures with alike forms have in common. Our own.
-use Rattle.std.specs.Prelude.{◌≡◌, ℕ, ℤ, Bool, true, cond, not, ◌||◌, IsTrue, List, [], ◌∷◌, filter}
+use Rattle.std.specs.Prelude.{◌≡◌, ℕ, ℤ, Bool, true, cond, not, ◌||◌, IsTrue, List, [], ◌∷◌, ◌++◌, filter}
 use Rattle.vx_bits.specs.declared.list.Item.{Item}
 use Rattle.vx_table.specs.declared.rows.Cell.{Cell}
 use Rattle.vx_table.specs.Scope.{loaded}
@@ -8,7 +8,7 @@ use Rattle.vx_table.specs.Parts.{Section}
 use Rattle.vx_table.specs.EachField.{EachField, rows_pass, sections_pass}
 use Rattle.vx_table.specs.Spelling.{items_along}
 use Rattle.vx_table.specs.Values.{Follows}
-use Rattle.vx_table.specs.Depends.{has, with_all, set_of, Agree, Alike, DependsOnlyOn}
+use Rattle.vx_table.specs.Depends.{has, Agree, Alike, DependsOnlyOn}
 use Rattle.vx_table.specs.Kept.{stands_for_field, kept_along}
 use Rattle.vx_table.specs.declared.rows.Row.{Row}
 use Rattle.vx_table.specs.declared.rows.Row.TheVariants.{Field, Block, Name}
@@ -68,13 +68,13 @@ sections_stars_tell shown sections = sections_pass (star_tells shown) sections
 
 -- at each scope a form keeps exactly the shown ones of its fields
 pub record KeepsOnly (given shown : List ℕ) (form : List ℕ → Form (List ℕ)) : Type 0 where
-  pub keeps : (s : List ℕ) → KeepsShown (with_all (set_of given) shown) (form s)
+  pub keeps : (s : List ℕ) → KeepsShown (given ++ shown) (form s)
 
 -- Kept fields depend on kept fields and on the given numbers alone: where a form keeps what is shown, and the shown depend only
 -- on the given, equal kept items at scopes that agree on the given come from equal kept fields, with equal codings and ranges.
 abbrev pub KeptTellsKept : Type 0
 KeptTellsKept = (given shown : List ℕ) (form : List ℕ → Form (List ℕ)) (s t a b : List ℕ) (v w : List ℤ) → DependsOnlyOn given shown form
-    → KeepsOnly given shown form → Agree (set_of given) s t → Follows (form s) v a → Follows (form t) w b
+    → KeepsOnly given shown form → Agree given s t → Follows (form s) v a → Follows (form t) w b
     → kept_along (form s) v ≡ kept_along (form t) w
-    → (shown_cells (with_all (set_of given) shown) (form s) v ≡ shown_cells (with_all (set_of given) shown) (form t) w)
-    × Agree (set_of given) a b
+    → (shown_cells (given ++ shown) (form s) v ≡ shown_cells (given ++ shown) (form t) w)
+    × Agree given a b

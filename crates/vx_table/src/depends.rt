@@ -1,50 +1,57 @@
 //! What the fields of a table depend on: a test over its rows.
 
-ghost use Rattle.std.specs.Prelude.{◌≡◌, IsTrue};
+ghost use Rattle.std.specs.Prelude.{◌≡◌, ◌&&◌, IsTrue};
 ghost use Rattle.vx_table.specs.Forms.{form_of};
-ghost use Rattle.vx_table.specs.Parts.{section_of, sections_of, sections_form};
+ghost use Rattle.vx_table.specs.Parts.{sections_of, sections_form};
 ghost use Rattle.vx_table.specs.Depends as sets;
 ghost use Rattle.vx_table.specs.Depends.{DependsOnlyOn};
 ghost use Rattle.vx_table.specs.Claims as test;
-ghost use Rattle.vx_table.specs.Claims.{known_if};
+ghost use Rattle.vx_table.specs.inner.Names.{listed, chain};
 
 use crate::parts::Part;
 use crate::rows::{Cell, Coding, Formula, Limits, Presence, Row, Term};
-use crate::scope::Scope;
 use crate::walk::{has_value, split_block};
 
-/// Whether a set of fields and names has this one; a set is a scope in which they have a number.
+/// Whether a set of fields and names, a list of them, has this one.
 #[inline(always)]
-pub(crate) fn has(names: &Scope, n: u16) -> bool
+pub(crate) fn has(names: &[u16], n: u16) -> bool
     ensures { result ≡ sets.has names.now n }
 {
-    names.latest(n) != 0
+    names.contains(&n)
 }
 
-/// A set with more fields and names.
-pub(crate) fn with_all(mut names: Scope, more: &[u16]) -> Scope
-    ensures { result ≡ sets.with_all names more.now }
+/// A set in a test: a list of names, or one with more before those of another set.
+#[derive(Drop)]
+enum Names<'a> {
+    Listed(&'a [u16]),
+    More(&'a [u16], &'a Names<'a>),
+}
+
+/// Whether such a set has this name.
+#[tactic(auto, unfolding(crate::specs::inner::Names::listed), using(crate::proofs::Agreeing::has_either))]
+fn among(names: &Names<'_>, n: u16) -> bool
+    ensures { result ≡ sets.has (listed names.now) n }
 {
-    for n in more {
-        names.set(*n, 1);
+    match names {
+        Names::Listed(all) => has(all, n),
+        Names::More(more, others) => has(more, n) || among(others, n),
     }
-    names
 }
 
 /// Whether a term reads only known names.
-fn knows(known: &Scope, term: Term) -> bool
-    ensures { result ≡ test.knows known.now term }
+fn knows(known: &Names<'_>, term: Term) -> bool
+    ensures { result ≡ test.knows (listed known.now) term }
 {
     match term {
         Term::Number(_) => true,
-        Term::Latest(of) => has(known, of),
+        Term::Latest(of) => among(known, of),
     }
 }
 
 /// Whether a formula reads only known names.
 #[tactic(auto, unfolding(crate::specs::Claims::knows_formula))]
-fn knows_formula(known: &Scope, formula: Formula) -> bool
-    ensures { result ≡ test.knows_formula known.now formula }
+fn knows_formula(known: &Names<'_>, formula: Formula) -> bool
+    ensures { result ≡ test.knows_formula (listed known.now) formula }
 {
     match formula {
         Formula::Plain(a) => knows(known, a),
@@ -66,8 +73,8 @@ fn knows_formula(known: &Scope, formula: Formula) -> bool
 
 /// Whether a field's width is known.
 #[tactic(auto, unfolding(crate::specs::Claims::knows_width))]
-fn knows_width(known: &Scope, coding: Coding<Formula>) -> bool
-    ensures { result ≡ test.knows_width known.now coding }
+fn knows_width(known: &Names<'_>, coding: Coding<Formula>) -> bool
+    ensures { result ≡ test.knows_width (listed known.now) coding }
 {
     match coding {
         Coding::Fixed(width) => knows_formula(known, width),
@@ -77,8 +84,8 @@ fn knows_width(known: &Scope, coding: Coding<Formula>) -> bool
 
 /// Whether a field's range is known.
 #[tactic(auto, unfolding(crate::specs::Claims::knows_range))]
-fn knows_range(known: &Scope, limits: Limits<Formula>) -> bool
-    ensures { result ≡ test.knows_range known.now limits }
+fn knows_range(known: &Names<'_>, limits: Limits<Formula>) -> bool
+    ensures { result ≡ test.knows_range (listed known.now) limits }
 {
     match limits {
         Limits::Within { high, .. } => knows_formula(known, high),
@@ -89,8 +96,8 @@ fn knows_range(known: &Scope, limits: Limits<Formula>) -> bool
 
 /// Whether it is known how often a block is there.
 #[tactic(auto, unfolding(crate::specs::Claims::knows_presence))]
-fn knows_presence(known: &Scope, presence: Presence) -> bool
-    ensures { result ≡ test.knows_presence known.now presence }
+fn knows_presence(known: &Names<'_>, presence: Presence) -> bool
+    ensures { result ≡ test.knows_presence (listed known.now) presence }
 {
     match presence {
         Presence::When(holds) => knows_formula(known, holds),
@@ -100,30 +107,30 @@ fn knows_presence(known: &Scope, presence: Presence) -> bool
 
 /// Whether a block gives no shown counter a number.
 #[tactic(auto, unfolding(crate::specs::Claims::hides_counter))]
-fn hides_counter(shown: &Scope, presence: Presence) -> bool
-    ensures { result ≡ test.hides_counter shown.now presence }
+fn hides_counter(shown: &Names<'_>, presence: Presence) -> bool
+    ensures { result ≡ test.hides_counter (listed shown.now) presence }
 {
     match presence {
         Presence::When(_) => true,
-        Presence::Repeat { counter, .. } => !has(shown, counter),
+        Presence::Repeat { counter, .. } => !among(shown, counter),
     }
 }
 
 /// Whether a row is no shown field, and gives no shown name a number.
 #[tactic(auto, unfolding(crate::specs::Claims::hides_row))]
-fn hides_row(shown: &Scope, row: Row) -> bool
-    ensures { result ≡ test.hides_row shown.now row }
+fn hides_row(shown: &Names<'_>, row: Row) -> bool
+    ensures { result ≡ test.hides_row (listed shown.now) row }
 {
     match row {
-        Row::Field(cell) => !has(shown, cell.field),
+        Row::Field(cell) => !among(shown, cell.field),
         Row::Block { presence, .. } => hides_counter(shown, presence),
-        Row::Name { name, .. } => !has(shown, name),
+        Row::Name { name, .. } => !among(shown, name),
     }
 }
 
 /// Whether rows have no shown field, and give no shown name a number.
-fn hides(shown: &Scope, rows: &[Row]) -> bool
-    ensures { result ≡ test.hides shown.now rows.now }
+fn hides(shown: &Names<'_>, rows: &[Row]) -> bool
+    ensures { result ≡ test.hides (listed shown.now) rows.now }
 {
     for row in rows {
         if !hides_row(shown, *row) {
@@ -133,122 +140,111 @@ fn hides(shown: &Scope, rows: &[Row]) -> bool
     true
 }
 
-/// What is known behind a row that gives this name a number.
-fn grown(shown: &Scope, known: Scope, n: u16) -> Scope
-    ensures { result ≡ test.grown shown.now known n }
-{
-    let mut known = known;
-    if has(shown, n) {
-        known.set(n, 1);
-    }
-    known
-}
-
-/// What is known behind a field.
-#[tactic(auto, unfolding(crate::specs::Claims::behind_field))]
-fn behind_field(shown: &Scope, known: Scope, cell: Cell<Formula>) -> Scope
-    ensures { result ≡ test.behind_field shown.now known cell }
-{
-    if has_value(cell.coding) {
-        grown(shown, known, cell.field)
-    } else {
-        known
-    }
-}
-
-/// What is known within a block.
-#[tactic(auto, unfolding(crate::specs::Claims::within_block))]
-fn within_block(shown: &Scope, known: Scope, presence: Presence) -> Scope
-    ensures { result ≡ test.within_block shown.now known presence }
-{
-    match presence {
-        Presence::When(_) => known,
-        Presence::Repeat { counter, .. } => grown(shown, known, counter),
-    }
-}
-
 /// Whether a shown field's width and range are known.
-fn field_depends(shown: &Scope, known: &Scope, cell: Cell<Formula>) -> bool
-    ensures { result ≡ test.field_depends shown.now known.now cell }
+fn field_depends(shown: &Names<'_>, known: &Names<'_>, cell: Cell<Formula>) -> bool
+    ensures { result ≡ test.field_depends (listed shown.now) (listed known.now) cell }
 {
-    if !has(shown, cell.field) {
+    if !among(shown, cell.field) {
         return true;
     }
     knows_width(known, cell.coding) && knows_range(known, cell.limits)
 }
 
 /// Whether a shown name's formula is known.
-fn name_depends(shown: &Scope, known: &Scope, name: u16, formula: Formula) -> bool
-    ensures { result ≡ test.name_depends shown.now known.now name formula }
+fn name_depends(shown: &Names<'_>, known: &Names<'_>, name: u16, formula: Formula) -> bool
+    ensures { result ≡ test.name_depends (listed shown.now) (listed known.now) name formula }
 {
-    if !has(shown, name) {
+    if !among(shown, name) {
         return true;
     }
     knows_formula(known, formula)
 }
 
-/// What is known behind rows, where their shown fields and names depend only on what is known where they stand.
+/// Whether a test over rows that come behind a name, and over parts behind these, holds with the name known, if it is shown.
 #[cycle(claims)]
-fn table_depends(shown: &Scope, known: Scope, table: &[Row]) -> Option<Scope>
-    ensures { result ≡ known_if (test.table_depends shown.now known table.now) (test.behind_table shown.now known table.now) }
+fn behind_name(
+    shown: &Names<'_>,
+    known: &Names<'_>,
+    n: u16,
+    rows: &[Row],
+    parts: &[Part<'_>],
+) -> bool
+    ensures { result ≡ chain (listed shown.now) (test.grown (listed shown.now) (listed known.now) n) rows.now (sections_of parts.now) }
 {
-    let mut known = known;
-    let mut rows = table;
-    while let Some((row, rest)) = rows.split_first() {
-        rows = match *row {
-            Row::Field(cell) => {
-                if !field_depends(shown, &known, cell) {
-                    return None;
-                }
-                known = behind_field(shown, known, cell);
-                rest
-            }
-            Row::Block {
-                presence,
-                rows: inside,
-            } => {
-                let (block, behind) = split_block(rest, inside);
-                if !block_depends(shown, known, presence, block) {
-                    return None;
-                }
-                behind
-            }
-            Row::Name { name, formula } => {
-                if !name_depends(shown, &known, name, formula) {
-                    return None;
-                }
-                known = grown(shown, known, name);
-                rest
-            }
-        };
+    if among(shown, n) {
+        return rows_depend(shown, &Names::More(&[n], &*known), rows, parts);
     }
-    Some(known)
+    rows_depend(shown, known, rows, parts)
+}
+
+/// Whether the shown fields and names of rows, and of parts behind them, depend only on what is known where they stand.
+#[cycle(claims)]
+fn rows_depend(shown: &Names<'_>, known: &Names<'_>, rows: &[Row], parts: &[Part<'_>]) -> bool
+    ensures { result ≡ chain (listed shown.now) (listed known.now) rows.now (sections_of parts.now) }
+{
+    let Some((row, rest)) = rows.split_first() else {
+        return parts_depend(shown, known, parts);
+    };
+    match *row {
+        Row::Field(cell) => {
+            if !field_depends(shown, known, cell) {
+                return false;
+            }
+            if has_value(cell.coding) {
+                return behind_name(shown, known, cell.field, rest, parts);
+            }
+            rows_depend(shown, known, rest, parts)
+        }
+        Row::Block {
+            presence,
+            rows: inside,
+        } => {
+            let (block, behind) = split_block(rest, inside);
+            block_depends(shown, known, presence, block) && rows_depend(shown, known, behind, parts)
+        }
+        Row::Name { name, formula } => {
+            name_depends(shown, known, name, formula)
+                && behind_name(shown, known, name, rest, parts)
+        }
+    }
+}
+
+/// Whether a block has no shown field, and gives no shown name a number.
+fn hides_block(shown: &Names<'_>, presence: Presence, block: &[Row]) -> bool
+    ensures { result ≡ (test.hides_counter (listed shown.now) presence && test.hides (listed shown.now) block.now) }
+{
+    hides_counter(shown, presence) && hides(shown, block)
 }
 
 /// Whether a block's presence is known and its rows depend on what is known within it, or all that it has is hidden.
 #[cycle(claims)]
-fn block_depends(shown: &Scope, known: Scope, presence: Presence, block: &[Row]) -> bool
-    ensures { result ≡ test.rows_depend shown.now known presence block.now }
+fn block_depends(shown: &Names<'_>, known: &Names<'_>, presence: Presence, block: &[Row]) -> bool
+    ensures { result ≡ test.rows_depend (listed shown.now) (listed known.now) presence block.now }
 {
-    if hides_counter(shown, presence) && hides(shown, block) {
+    if hides_block(shown, presence, block) {
         return true;
     }
-    if !knows_presence(&known, presence) {
+    if !knows_presence(known, presence) {
         return false;
     }
-    table_depends(shown, within_block(shown, known, presence), block).is_some()
+    match presence {
+        Presence::When(_) => rows_depend(shown, known, block, &[]),
+        Presence::Repeat { counter, .. } => behind_name(shown, known, counter, block, &[]),
+    }
 }
 
-/// Whether the shown fields and names of a table depend on the given numbers of the scope alone, as far as a test
-/// over the rows tells: a width, a range or a shown name's formula uses a given number, or one that the table gave
-/// a shown field or name before it in the same block or around it, and a block whose presence uses others hides all
-/// that it has.
-pub fn depends_only_on(table: &[Row], given: &[u16], shown: &[u16]) -> bool
-    ensures test { result ≡ test.depends_only_on given.now shown.now table.now }
-    ensures depends { IsTrue result → DependsOnlyOn given.now shown.now (form_of table.now) }
+/// Whether the shown fields and names of a structure's parts depend only on what is known before each.
+#[cycle(claims)]
+fn parts_depend(shown: &Names<'_>, known: &Names<'_>, parts: &[Part<'_>]) -> bool
+    ensures { result ≡ test.sections_chain (listed shown.now) (listed known.now) (sections_of parts.now) }
 {
-    let known = with_all(Scope::new(), given);
-    table_depends(&with_all(known, shown), known, table).is_some()
+    let Some((part, more)) = parts.split_first() else {
+        return true;
+    };
+    if comes_always(part.presence) {
+        return rows_depend(shown, known, part.rows, more);
+    }
+    block_depends(shown, known, part.presence, part.rows) && parts_depend(shown, known, more)
 }
 
 /// Whether a table of a structure is there whatever the scope.
@@ -262,32 +258,21 @@ fn comes_always(presence: Presence) -> bool
     }
 }
 
-/// What is known behind a part of a structure, where its shown fields and names depend only on what is known before it.
-fn part_depends(shown: &Scope, known: Scope, part: &Part<'_>) -> Option<Scope>
-    ensures { result ≡ known_if (test.section_depends shown.now known (section_of part.now)) (test.behind_section shown.now known (section_of part.now)) }
+/// Whether the shown fields and names of a table depend on the given numbers of the scope alone, as far as a test
+/// over the rows tells: a width, a range or a shown name's formula uses a given number, or one that the table gave
+/// a shown field or name before it in the same block or around it, and a block whose presence uses others hides all
+/// that it has.
+pub fn depends_only_on(table: &[Row], given: &[u16], shown: &[u16]) -> bool
+    ensures test { result ≡ test.depends_only_on given.now shown.now table.now }
+    ensures depends { IsTrue result → DependsOnlyOn given.now shown.now (form_of table.now) }
 {
-    if comes_always(part.presence) {
-        return table_depends(shown, known, part.rows);
-    }
-    if block_depends(shown, known, part.presence, part.rows) {
-        Some(known)
-    } else {
-        None
-    }
-}
-
-/// Whether the shown fields and names of a structure's parts depend only on what is known before each.
-fn parts_depend(shown: &Scope, known: Scope, parts: &[Part<'_>]) -> bool
-    ensures { result ≡ test.sections_chain shown.now known (sections_of parts.now) }
-{
-    let mut known = known;
-    for part in parts {
-        match part_depends(shown, known, part) {
-            Some(behind) => known = behind,
-            None => return false,
-        }
-    }
-    true
+    let more = Names::Listed(shown);
+    rows_depend(
+        &Names::More(given, &more),
+        &Names::Listed(given),
+        table,
+        &[],
+    )
 }
 
 /// Whether the shown fields and names of a structure's parts depend on the given numbers of the scope alone; a
@@ -296,6 +281,6 @@ pub fn parts_depend_only_on(parts: &[Part<'_>], given: &[u16], shown: &[u16]) ->
     ensures test { result ≡ test.sections_depend_only_on given.now shown.now (sections_of parts.now) }
     ensures depends { IsTrue result → DependsOnlyOn given.now shown.now (sections_form (sections_of parts.now)) }
 {
-    let known = with_all(Scope::new(), given);
-    parts_depend(&with_all(known, shown), known, parts)
+    let more = Names::Listed(shown);
+    parts_depend(&Names::More(given, &more), &Names::Listed(given), parts)
 }

@@ -5,7 +5,6 @@ ghost use Rattle.vx_table.specs.Shown.{shown_items};
 ghost use Rattle.vx_table.specs.Rewritten.{other_items, where_so};
 
 use crate::depends::has;
-use crate::scope::Scope;
 use std::alloc::{AllocError, Global};
 use vx_bits::{Fields, Item};
 
@@ -15,7 +14,7 @@ use vx_bits::{Fields, Item};
 ///
 /// Where memory runs out.
 #[tactic(auto, using(crate::proofs::Gathering::shown_more, crate::proofs::Gathering::shown_passed))]
-pub fn items_of(alloc: Global, items: &Fields, names: &Scope) -> Result<Fields, AllocError>
+pub fn items_of(alloc: Global, items: &Fields, names: &[u16]) -> Result<Fields, AllocError>
     ensures { IfOk result (λ shown. shown ≡ shown_items names.now items.now) }
 {
     let mut shown = Fields::new(alloc);
@@ -34,7 +33,7 @@ pub fn items_of(alloc: Global, items: &Fields, names: &Scope) -> Result<Fields, 
 ///
 /// Where memory runs out.
 #[tactic(auto, using(crate::proofs::Gathering::other_more, crate::proofs::Gathering::other_passed))]
-pub fn others_of(alloc: Global, items: &Fields, names: &Scope) -> Result<Fields, AllocError>
+pub fn others_of(alloc: Global, items: &Fields, names: &[u16]) -> Result<Fields, AllocError>
     ensures { IfOk result (λ others. others ≡ other_items names.now items.now) }
 {
     let mut others = Fields::new(alloc);

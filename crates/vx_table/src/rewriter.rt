@@ -1,14 +1,13 @@
 //! Rewriting: from the items of some fields, and those of the others, the items of one value of a structure.
 
 ghost use Rattle.std.specs.Prelude.{◌≡◌, ◌↔◌, [], IsTrue};
-ghost use Rattle.vx_table.specs.Depends as sets;
 ghost use Rattle.vx_table.specs.Parts.{parts_form};
 ghost use Rattle.vx_table.specs.Forms.{form_of};
 ghost use Rattle.vx_table.specs.Spelling as spelling;
 ghost use Rattle.vx_table.specs.Spelling.{IsCodable};
 ghost use Rattle.vx_table.specs.Rewritten.{Sources, TakesNext, RewritesInto};
 
-use crate::depends::{has, with_all};
+use crate::depends::has;
 use crate::parts::{Part, code_parts};
 use crate::reader::push;
 use crate::rows::{Cell, Row};
@@ -18,17 +17,10 @@ use crate::writer::{SpellError, Unwritten, take_value};
 use std::marker::Model;
 use vx_bits::Fields;
 
-/// A set of fields and names: a scope in which they have a number.
-pub fn set_of(numbers: &[u16]) -> Scope
-    ensures { result ≡ sets.set_of numbers.now }
-{
-    with_all(Scope::new(), numbers)
-}
-
 /// What a structure is rewritten from: the fields that are taken over, their items, and those of all other fields.
 #[derive(Drop)]
 pub struct Rewriter<'a> {
-    names: Scope,
+    names: &'a [u16],
     shown: Unwritten<'a>,
     others: Unwritten<'a>,
 }
@@ -36,13 +28,13 @@ pub struct Rewriter<'a> {
 impl<'a> Model for Rewriter<'a> {
     ghost Value = { Sources };
 
-    ghost view = { λ r. record { names = r.names; shown = r.shown; others = r.others } };
+    ghost view = { λ r. record { names = r.names.now; shown = r.shown; others = r.others } };
 }
 
 impl<'a> Rewriter<'a> {
     /// From the items of the fields in a set, and those of the others, the next one of each first.
-    pub fn new(names: Scope, shown: Unwritten<'a>, others: Unwritten<'a>) -> Rewriter<'a>
-        ensures { result ≡ record { names = names; shown = shown.entry; others = others.entry } }
+    pub fn new(names: &'a [u16], shown: Unwritten<'a>, others: Unwritten<'a>) -> Rewriter<'a>
+        ensures { result ≡ record { names = names.now; shown = shown.entry; others = others.entry } }
     {
         Rewriter {
             names,
@@ -64,7 +56,7 @@ impl<'a> Rewriter<'a> {
         requires { IsCodable cell.coding }
         ensures { TakesNext cell self.old result self.new }
     {
-        if has(&self.names, cell.field) {
+        if has(self.names, cell.field) {
             take_value(&mut self.shown, cell)
         } else {
             take_value(&mut self.others, cell)

@@ -7,7 +7,6 @@ ghost use Rattle.vx_table.specs.Sent.{BeginsWithOther};
 
 use crate::depends::has;
 use crate::rows::Cell;
-use crate::scope::Scope;
 use crate::walk::Coder;
 use crate::writer::{SpellError, Unwritten, take_value, write_code};
 use std::marker::Model;
@@ -18,7 +17,7 @@ use vx_bits::BitWriter;
 /// It is seen as what a [`crate::Rewriter`] is that is given the source's items of the other fields.
 #[derive(Drop)]
 pub struct Sender<'a> {
-    names: &'a Scope,
+    names: &'a [u16],
     stated: Unwritten<'a>,
     source: Unwritten<'a>,
 }
@@ -31,7 +30,7 @@ impl<'a> Model for Sender<'a> {
 
 /// Passes over the items of a set's fields that come next.
 #[inline(always)]
-fn pass_named(names: &Scope, items: &mut Unwritten<'_>)
+fn pass_named(names: &[u16], items: &mut Unwritten<'_>)
     ensures others { other_items names.now items.new ≡ other_items names.now items.old }
     ensures next { BeginsWithOther names.now items.new }
 {
@@ -46,7 +45,7 @@ fn pass_named(names: &Scope, items: &mut Unwritten<'_>)
 
 impl<'a> Sender<'a> {
     /// From the items of the fields in a set, and all items of another value, of which those of the other fields are taken.
-    pub fn new(names: &'a Scope, stated: Unwritten<'a>, source: Unwritten<'a>) -> Sender<'a>
+    pub fn new(names: &'a [u16], stated: Unwritten<'a>, source: Unwritten<'a>) -> Sender<'a>
         ensures { result ≡ record { names = names.now; shown = stated.entry; others = other_items names.now source.entry } }
     {
         Sender {

@@ -5,7 +5,7 @@ use Rattle.vx_bits.specs.declared.list.Item.{Item}
 use Rattle.vx_fields.specs.declared.ph.TheConstants as ph
 use Rattle.vx_fields.specs.declared.pps.TheConstants as pps
 use Rattle.vx_fields.specs.declared.sh.TheConstants as sh
-use Rattle.vx_table.specs.Depends.{has, set_of}
+use Rattle.vx_table.specs.Depends.{has}
 use Rattle.vx_table.specs.Scope.{natural}
 use Rattle.vx_layout.specs.declared.numbers.Numbers.{Numbers}
 use Rattle.vx_aps.specs.declared.aps.TheConstants as aps
@@ -39,7 +39,7 @@ new_id named q id = id_of_body (map (λ b. b.now) named.bodies) named.ids.items 
 -- an item with it, where its field names a set
 abbrev pub renamed : NamedBodies → Parts → Item → Item
 renamed named q item =
-    cond (has (set_of set_ids) item.field) (record { field = item.field; value = pos (new_id named q (natural item.value)) }) item
+    cond (has set_ids item.field) (record { field = item.field; value = pos (new_id named q (natural item.value)) }) item
 
 -- the filter in force of a slice, with the ids that its bodies take
 abbrev pub new_filter : NamedBodies → Parts → SliceValue → List Item

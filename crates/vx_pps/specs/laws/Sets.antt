@@ -7,7 +7,7 @@ use Rattle.vx_bits.specs.declared.refusal.ReadError.{ReadError}
 use Rattle.vx_bits.specs.declared.refusal.ReadError.TheVariants as errors
 use Rattle.vx_fields.specs.declared.pps.TheConstants as pps
 use Rattle.vx_fields.specs.declared.names.pps.TheConstants.{LIST, OFFSET, PARTITIONED, HAS_DBF_INFO, IS_WEIGHTED, HAS_WP_INFO}
-use Rattle.vx_table.specs.Depends.{has, set_of, DependsOnlyOn}
+use Rattle.vx_table.specs.Depends.{has, DependsOnlyOn}
 use Rattle.vx_table.specs.EachField.{EachField}
 use Rattle.vx_table.specs.Loaded.{number}
 use Rattle.vx_table.specs.Parts.{sections_form}
@@ -66,12 +66,12 @@ pub record KeptDependsOnKept : Type 0 where
 -- Sets with the same items of kept fields, and the same others, are the same.
 abbrev pub KeptAndOthersTell : Type 0
 KeptAndOthersTell =
-    (items others : List Item) → ArePpsItems items → ArePpsItems others → shown_items (set_of kept_pps_fields) items ≡ shown_items (set_of kept_pps_fields) others
-    → other_items (set_of kept_pps_fields) items ≡ other_items (set_of kept_pps_fields) others → items ≡ others
+    (items others : List Item) → ArePpsItems items → ArePpsItems others → shown_items kept_pps_fields items ≡ shown_items kept_pps_fields others
+    → other_items kept_pps_fields items ≡ other_items kept_pps_fields others → items ≡ others
 
 -- Two sets give each kept field the same number, and have the same numbers of active entries.
 pub record GiveSame (items others : List Item) : Type 0 where
-  pub numbers : (n : ℕ) → IsTrue (has (set_of kept_pps_fields) n) → number items n ≡ number others n
+  pub numbers : (n : ℕ) → IsTrue (has kept_pps_fields n) → number items n ≡ number others n
   pub active : (list : ℕ) → default_active items list ≡ default_active others list
 
 -- So do sets with the same kept items, those among them that stand for absent fields.

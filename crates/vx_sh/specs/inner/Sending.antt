@@ -3,7 +3,6 @@ use Rattle.std.specs.Prelude.{◌≡◌, ◌≤◌, ℕ, Bool, List, [], ◌∷�
 use Rattle.vx_bits.specs.declared.list.Item.{Item}
 use Rattle.vx_table.specs.declared.writer.SpellError.{SpellError}
 use Rattle.vx_table.specs.Scope.{is_set, one_if}
-use Rattle.vx_table.specs.Depends.{set_of}
 use Rattle.vx_table.specs.Rewritten.{IsRewritten, other_items}
 use Rattle.vx_table.specs.Values.{bits_along}
 use Rattle.vx_table.specs.Writing.{IsWritten}
@@ -17,11 +16,10 @@ use Rattle.vx_sh.specs.declared.tables.TheConstants.{STARRED}
 use Rattle.vx_sh.specs.InForce.{slice_scope}
 use Rattle.vx_sh.specs.Whole.{At, apart_form}
 
--- The scopes are those of the sets and of the slices in force, and this is the set of the fields that are stated.
-pub record AreScopes (n : SliceNumbers) (sets slice starred : List ℕ) : Type 0 where
+-- The scopes are those of the sets and of the slices in force.
+pub record AreScopes (n : SliceNumbers) (sets slice : List ℕ) : Type 0 where
   pub sets_are : sets ≡ in_force n.sps.now n.pps.now
   pub slice_is : slice ≡ slice_scope n.nal_type n.sps.now n.pps.now n.header.now sets
-  pub starred_are : starred ≡ set_of STARRED
   pub few : length n.ids.now ≤ 1000
   pub one_each : length n.ids.now ≡ length n.layout.now.subpics
 
@@ -35,5 +33,5 @@ uses_at slice uses_lmcs uses_scaling =
 -- The slice header that has these stated items, and of the other fields the source's, is written, where there is one.
 abbrev pub SendsApart : At → List Item → List Item → Result (Unit {0}) SpellError → List Bool → Type 0
 SendsApart n stated source result bits = (items : List Item)
-    → (is : IsRewritten (apart_form n.table n.ids n.layout n.slice) (set_of STARRED) stated (other_items (set_of STARRED) source) items)
+    → (is : IsRewritten (apart_form n.table n.ids n.layout n.slice) STARRED stated (other_items STARRED source) items)
     → IsWritten result (bits ≡ bits_along (apart_form n.table n.ids n.layout n.slice) 0 is.values)

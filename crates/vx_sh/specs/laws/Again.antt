@@ -7,7 +7,7 @@ use Rattle.vx_table.specs.Parts.{sections_form}
 use Rattle.vx_table.specs.Spelling.{items_along}
 use Rattle.vx_table.specs.Values.{Follows}
 use Rattle.vx_table.specs.Reading.{Reads}
-use Rattle.vx_table.specs.Depends.{with_all, set_of, Agree}
+use Rattle.vx_table.specs.Depends.{Agree}
 use Rattle.vx_table.specs.Shown.{shown_items}
 use Rattle.vx_table.specs.Rewritten.{IsRewritten}
 use Rattle.vx_table.specs.Rewrites.{Takes}
@@ -20,18 +20,18 @@ use Rattle.vx_sh.specs.Depends.{kept_given, kept_with_names, all_given}
 abbrev pub SlicesReadAgain : Type 0
 SlicesReadAgain = (table : RplTable) (points : ℕ → ℕ) (s t : List ℕ) (old new : Place) (items after : List Item)
     (result : Result (Unit {0}) ReadError)
-    → Agree (set_of all_given) s t → Reads (rest_form table points s) old items result new after
+    → Agree all_given s t → Reads (rest_form table points s) old items result new after
     → Reads (rest_form table points t) old items result new after
 
 -- the kept fields with the names that their rows use, and what they depend on
 abbrev pub kept : List ℕ
-kept = with_all (set_of kept_given) kept_with_names
+kept = kept_given ++ kept_with_names
 
 -- A slice header can be rewritten at each scope that agrees on the numbers that kept fields depend on: with its kept fields, another
 -- filter, other uses of LMCS and scaling lists, and another QP, whatever the scope asks of these.
 abbrev pub SlicesRewrite : Type 0
 SlicesRewrite = (table : RplTable) (points : ℕ → ℕ) (s t : List ℕ) (values : List ℤ) (end : List ℕ) (uses delta : List Item)
-    → Agree (set_of kept_given) s t → Follows (rest_form table points s) values end → Takes (sections_form own t) uses
+    → Agree kept_given s t → Follows (rest_form table points s) values end → Takes (sections_form own t) uses
     → Takes (sections_form qp t) delta
     → (items : List Item)
     × IsRewritten (rest_form table points t) kept (shown_items kept (items_along (rest_form table points s) values)) (uses ++ delta) items

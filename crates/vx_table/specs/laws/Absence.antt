@@ -66,7 +66,7 @@ abbrev pub name_hides : List ℕ → ℕ → Formula → Bool
 name_hides zeros name formula = is_zero zeros formula || not (has zeros name)
 
 abbrev pub with_name : List ℕ → ℕ → Formula → List ℕ
-with_name zeros name formula = cond (is_zero zeros formula) (slice_set zeros name 1) zeros
+with_name zeros name formula = cond (is_zero zeros formula) (name ∷ zeros) zeros
 
 -- No field of the names is left, and none of the numbers changes. It is said of len rows, those behind the first skip of them.
 unfoldable pub rows_hide : List ℕ → List ℕ → ℕ → ℕ → List Row → Bool

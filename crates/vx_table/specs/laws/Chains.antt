@@ -1,10 +1,10 @@
 -- How what is known goes along the parts of a structure.
-use Rattle.std.specs.Prelude.{◌≡◌, ℕ, true, List, slice_set}
+use Rattle.std.specs.Prelude.{◌++◌, ◌≡◌, ℕ, true, List, slice_set}
 use Rattle.vx_table.specs.declared.rows.Presence.{Presence}
 use Rattle.vx_table.specs.declared.rows.Row.{Row}
 use Rattle.vx_table.specs.Forms.{Form, done, ◌>>=◌, present, form_of}
 use Rattle.vx_table.specs.Parts.{Section, sections_form}
-use Rattle.vx_table.specs.Depends.{with_all, set_of, Agree, DependsOnlyOn, Carries}
+use Rattle.vx_table.specs.Depends.{Agree, DependsOnlyOn, Carries}
 use Rattle.vx_table.specs.Claims.{grown, within_block, knows_presence, table_depends, behind_table, sections_chain, behind_sections}
 
 -- a table on which the test holds, and tables one after another
@@ -37,4 +37,4 @@ CarriesPresent = (shown before after : List ℕ) (presence : Presence) (form : L
 -- a structure that carries the given numbers depends on them alone
 abbrev pub ChainsDepend : Type 0
 ChainsDepend = (given shown after : List ℕ) (form : List ℕ → Form (List ℕ))
-    → Carries (with_all (set_of given) shown) (set_of given) after form → DependsOnlyOn given shown form
+    → Carries (given ++ shown) given after form → DependsOnlyOn given shown form

@@ -10,9 +10,9 @@ use Rattle.vx_pic.proofs.kept_fields.header_fields.Goals as goal
 pub returns : goal.returns
 returns c =
     marked_all kept_ph_fields c.new-kept.ensures
-    (marked _ (unstarred ph_before_lists) (unstarred (lists_tables ++ (middle ++ (weights ++ back)))) c.mark_header_front.ensures
-    (marked _ (unstarred lists_tables) (unstarred (middle ++ (weights ++ back))) c.mark_lists.ensures
-    (marked _ (unstarred_rows INTRA) (unstarred (drop 1 middle ++ (weights ++ back))) c.mark_unstarred.ensures
-    (marked _ (unstarred_rows INTER) (unstarred (weights ++ back)) c.mark_unstarred-2.ensures
-    (marked _ (unstarred weights) (unstarred back) c.mark_weights.ensures
-    (marked _ (unstarred_rows QP) (unstarred_rows FILTERS) c.mark_unstarred-3.ensures c.mark_unstarred-4.ensures))))))
+    (marked _ (unstarred ph_before_lists) (unstarred (lists_tables ++ (middle ++ (weights ++ back)))) c.in_ok-push_header_front.ensures
+    (marked _ (unstarred lists_tables) (unstarred (middle ++ (weights ++ back))) c.in_ok-push_lists.ensures
+    (marked _ (unstarred_rows INTRA) (unstarred (drop 1 middle ++ (weights ++ back))) c.in_ok-push_unstarred.ensures
+    (marked _ (unstarred_rows INTER) (unstarred (weights ++ back)) c.in_ok-push_unstarred-2.ensures
+    (marked _ (unstarred weights) (unstarred back) c.in_ok-push_weights.ensures
+    (marked _ (unstarred_rows QP) (unstarred_rows FILTERS) c.in_ok-push_unstarred-3.ensures c.in_ok-push_unstarred-4.ensures))))))

@@ -9,16 +9,16 @@ new-requires c =
 
 pub returns-in-Ok : goal.returns-in-Ok
 returns-in-Ok c = λ items is.
-    let whole = whole_sources c.args.names c.args.shown.now c.args.others.now c.new-shown.result c.new-others.result c.len.result c.len-2.result c.new-rewriter.result c.new-rewriter.ensures c.new-shown.ensures c.new-others.ensures c.len.ensures c.len-2.ensures in
+    let whole = whole_sources c.args.names.now c.args.shown.now c.args.others.now c.new-shown.result c.new-others.result c.len.result c.len-2.result c.new-rewriter.result c.new-rewriter.ensures c.new-shown.ensures c.new-others.ensures c.len.ensures c.len-2.ensures in
     let walked = from_sources whole c.new-items.ensures c.code_pps.ensures in
-    c.new.ensures ∙ puts record { names = c.args.names; shown = c.args.shown.now; others = c.args.others.now } c.code_pps.new.coder c.code_pps.new.items c.in-Ok.partition (rw c.in-Ok.is at walked) items is
+    c.new.ensures ∙ puts record { names = c.args.names.now; shown = c.args.shown.now; others = c.args.others.now } c.code_pps.new.coder c.code_pps.new.items c.in-Ok.partition (rw c.in-Ok.is at walked) items is
 
 pub returns-in-Err : goal.returns-in-Err
 returns-in-Err c =
-    let whole = whole_sources c.args.names c.args.shown.now c.args.others.now c.new-shown.result c.new-others.result c.len.result c.len-2.result c.new-rewriter.result c.new-rewriter.ensures c.new-shown.ensures c.new-others.ensures c.len.ensures c.len-2.ensures in
+    let whole = whole_sources c.args.names.now c.args.shown.now c.args.others.now c.new-shown.result c.new-others.result c.len.result c.len-2.result c.new-rewriter.result c.new-rewriter.ensures c.new-shown.ensures c.new-others.ensures c.len.ensures c.len-2.ensures in
     let walked = from_sources whole c.new-items.ensures c.code_pps.ensures in
     IfOk-weaker c.unmade.result _ _
     (λ set why.
     rw why.0
-    (puts_none_at record { names = c.args.names; shown = c.args.shown.now; others = c.args.others.now } c.code_pps.new.coder c.code_pps.new.items c.code_pps.result (c.in-Err.is ∙ ap Err why.1) walked))
+    (puts_none_at record { names = c.args.names.now; shown = c.args.shown.now; others = c.args.others.now } c.code_pps.new.coder c.code_pps.new.items c.code_pps.result (c.in-Err.is ∙ ap Err why.1) walked))
     c.unmade.ensures

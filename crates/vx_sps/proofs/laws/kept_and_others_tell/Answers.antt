@@ -1,5 +1,4 @@
 use Rattle.std.proofs.Common.{refl, sym}
-use Rattle.vx_table.specs.Depends.{set_of}
 use Rattle.vx_table.specs.Rewritten.{other_items}
 use Rattle.vx_table.specs.Shown.{shown_items}
 use Rattle.vx_table.proofs.Rewriting.{rewrites_one_way}
@@ -9,6 +8,6 @@ use Rattle.vx_sps.proofs.laws.kept_and_others_tell.Goals as goal
 
 pub returns : goal.returns
 returns c = λ items others is of same rest.
-    rewrites_one_way sps_form (set_of kept_sps_fields) (shown_items (set_of kept_sps_fields) items) (other_items (set_of kept_sps_fields) items) items others
+    rewrites_one_way sps_form kept_sps_fields (shown_items kept_sps_fields items) (other_items kept_sps_fields items) items others
     (record { values = is.values; end = is.end; follows = is.follows; all = is.all; shown_ones = refl; other_ones = refl })
     (record { values = of.values; end = of.end; follows = of.follows; all = of.all; shown_ones = sym same; other_ones = sym rest })

@@ -1,55 +1,58 @@
-use Rattle.std.proofs.Common.{arith, refl, sym, ◌∙◌}
-use Rattle.vx_table.proofs.Testing.{test-none, test-field, test-block, test-name, behind-none, behind-first-field, behind-first-block, behind-first-name}
+use Rattle.std.proofs.Common.{refl, sym, ◌∙◌}
+use Rattle.vx_table.specs.inner.Names.{listed}
+use Rattle.vx_table.proofs.Testing.{chain-none, chain-field, chain-name, chain-block, behind-valued, behind-gap, block-when, block-repeat}
 use Rattle.vx_table.proofs.depends.+claims.Goals as goal
 
-pub table_depends-returns-then-not-field_depends :
-    goal.table_depends-returns-then-not-field_depends
-table_depends-returns-then-not-field_depends t c =
-    let before = rw (c.in-Some.ensures.cases.0, c.in-Field.is, test-field) at c.loop-row.invariant.1 in
-    let fails = rw (← c.field_depends.ensures, c.if-not-field_depends.true) at before in
-    rw (← fails) refl
+pub behind_name-returns-then-among : goal.behind_name-returns-then-among
+unfolding listed
+behind_name-returns-then-among t c = rw (sym c.among.ensures ∙ c.if-among.true) c.rows_depend.ensures
 
-pub table_depends-returns-then-not-block_depends :
-    goal.table_depends-returns-then-not-block_depends
-table_depends-returns-then-not-block_depends t c =
-    let before = rw (c.in-Some.ensures.cases.0, c.in-Block.is, test-block) at c.loop-row.invariant.1 in
-    let test = rw c.split_block.ensures.block at c.block_depends.ensures in
-    let fails = rw (← test, c.if-not-block_depends.true) at before in
-    rw (← fails) refl
+pub block_depends-returns-in-When : goal.block_depends-returns-in-When
+block_depends-returns-in-When t c =
+    let there = sym c.hides_block.ensures ∙ c.if-hides_block.false in
+    let knows = sym c.knows_presence.ensures ∙ c.if-not-knows_presence.false in
+    c.rows_depend.ensures ∙ sym (block-when (listed c.args.shown.now) (listed c.args.known.now) c.args.block.now c.in-When.is there knows)
 
-pub table_depends-returns-then-not-name_depends :
-    goal.table_depends-returns-then-not-name_depends
-table_depends-returns-then-not-name_depends t c =
-    let before = rw (c.in-Some.ensures.cases.0, c.in-Name.is, test-name) at c.loop-row.invariant.1 in
-    let fails = rw (← c.name_depends.ensures, c.if-not-name_depends.true) at before in
-    rw (← fails) refl
+pub block_depends-returns-in-Repeat : goal.block_depends-returns-in-Repeat
+block_depends-returns-in-Repeat t c =
+    let there = sym c.hides_block.ensures ∙ c.if-hides_block.false in
+    let knows = sym c.knows_presence.ensures ∙ c.if-not-knows_presence.false in
+    c.behind_name.ensures ∙ sym (block-repeat (listed c.args.shown.now) (listed c.args.known.now) c.args.block.now c.in-Repeat.is there knows)
 
-pub table_depends-loop-row-preserved-else-not-field_depends :
-    goal.table_depends-loop-row-preserved-else-not-field_depends
-table_depends-loop-row-preserved-else-not-field_depends t c =
-    let before = rw (c.in-Some.ensures.cases.0, c.in-Field.is, test-field) at c.loop-row.invariant.1 in
-    let behind = rw (c.in-Some.ensures.cases.0, c.in-Field.is, behind-first-field) at c.loop-row.invariant.2 in
-    let on = rw (← c.field_depends.ensures, c.if-not-field_depends.false) at before in
-    (omega (arith, c.in-Some.ensures.cases.1, c.loop-row.invariant.0), rw c.behind_field-known.ensures on, rw c.behind_field-known.ensures behind)
+pub rows_depend-returns-in_default : goal.rows_depend-returns-in_default
+rows_depend-returns-in_default t c = c.parts_depend.ensures ∙ sym (chain-none _ _ _ _ (rw c.in_default.is at c.split_first.ensures.cases))
 
-pub table_depends-loop-row-preserved-else-not-block_depends :
-    goal.table_depends-loop-row-preserved-else-not-block_depends
-table_depends-loop-row-preserved-else-not-block_depends t c =
-    let before = rw (c.in-Some.ensures.cases.0, c.in-Block.is, test-block) at c.loop-row.invariant.1 in
-    let behind = rw (c.in-Some.ensures.cases.0, c.in-Block.is, behind-first-block) at c.loop-row.invariant.2 in
-    let holds = rw c.split_block.ensures.block at c.block_depends.ensures in
-    let on = rw (← holds, c.if-not-block_depends.false) at before in
-    (omega (arith, c.in-Some.ensures.cases.1, c.split_block.ensures.all, c.loop-row.invariant.0), rw c.split_block.ensures.behind on, rw c.split_block.ensures.behind behind)
+pub rows_depend-returns-then-not-field_depends :
+    goal.rows_depend-returns-then-not-field_depends
+rows_depend-returns-then-not-field_depends t c =
+    rw (c.in-Some.ensures.cases.0, c.in-Field.is, chain-field, ← c.field_depends.ensures, c.if-not-field_depends.true) refl
 
-pub table_depends-loop-row-preserved : goal.table_depends-loop-row-preserved
-table_depends-loop-row-preserved t c =
-    let before = rw (c.in-Some.ensures.cases.0, c.in-Name.is, test-name) at c.loop-row.invariant.1 in
-    let behind = rw (c.in-Some.ensures.cases.0, c.in-Name.is, behind-first-name) at c.loop-row.invariant.2 in
-    let on = rw (← c.name_depends.ensures, c.if-not-name_depends.false) at before in
-    (omega (arith, c.in-Some.ensures.cases.1, c.loop-row.invariant.0), rw c.grown-known.ensures on, rw c.grown-known.ensures behind)
+pub rows_depend-returns-then-has_value : goal.rows_depend-returns-then-has_value
+rows_depend-returns-then-has_value t c =
+    let behind = behind-valued (listed c.args.shown.now) (listed c.args.known.now) c.in-Field.cell (sym c.has_value.ensures ∙ c.if-has_value.true) in
+    rw (c.in-Some.ensures.cases.0, c.in-Field.is, chain-field, ← c.field_depends.ensures, c.if-not-field_depends.false, behind) c.behind_name.ensures
 
-pub table_depends-returns : goal.table_depends-returns
-table_depends-returns t c =
-    let holds = sym (test-none _ _ _ (rw c.in_default.is at c.split_first.ensures.cases)) ∙ c.loop-row.invariant.1 in
-    let behind = sym (behind-none _ _ _ (rw c.in_default.is at c.split_first.ensures.cases)) ∙ c.loop-row.invariant.2 in
-    rw (← holds, ← behind) refl
+pub rows_depend-returns-else-has_value : goal.rows_depend-returns-else-has_value
+rows_depend-returns-else-has_value t c =
+    let behind = behind-gap (listed c.args.shown.now) (listed c.args.known.now) c.in-Field.cell (sym c.has_value.ensures ∙ c.if-has_value.false) in
+    rw (c.in-Some.ensures.cases.0, c.in-Field.is, chain-field, ← c.field_depends.ensures, c.if-not-field_depends.false, behind) c.rows_depend.ensures
+
+pub rows_depend-returns-then-block_depends :
+    goal.rows_depend-returns-then-block_depends
+rows_depend-returns-then-block_depends t c =
+    rw (c.in-Some.ensures.cases.0, c.in-Block.is, chain-block, ← c.split_block.ensures.block, ← c.split_block.ensures.behind, ← c.block_depends.ensures, c.if-block_depends.true) c.rows_depend-then-block_depends.ensures
+
+pub rows_depend-returns-else-block_depends :
+    goal.rows_depend-returns-else-block_depends
+rows_depend-returns-else-block_depends t c =
+    rw (c.in-Some.ensures.cases.0, c.in-Block.is, chain-block, ← c.split_block.ensures.block, ← c.split_block.ensures.behind, ← c.block_depends.ensures, c.if-block_depends.false) refl
+
+pub rows_depend-returns-then-name_depends :
+    goal.rows_depend-returns-then-name_depends
+rows_depend-returns-then-name_depends t c =
+    rw (c.in-Some.ensures.cases.0, c.in-Name.is, chain-name, ← c.name_depends.ensures, c.if-name_depends.true) c.behind_name-then-name_depends.ensures
+
+pub rows_depend-returns-else-name_depends :
+    goal.rows_depend-returns-else-name_depends
+rows_depend-returns-else-name_depends t c =
+    rw (c.in-Some.ensures.cases.0, c.in-Name.is, chain-name, ← c.name_depends.ensures, c.if-name_depends.false) refl

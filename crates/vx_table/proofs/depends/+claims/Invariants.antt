@@ -1,18 +1,15 @@
-use Rattle.std.proofs.Common.{◌≡◌, ◌+◌, ◌*◌, ◌≤◌, length}
-use Rattle.vx_table.specs.Claims.{table_depends, behind_table}
+use Rattle.std.proofs.Common.{◌+◌, ◌*◌, length}
+use Rattle.vx_table.proofs.Testing.{weight}
 use Rattle.vx_table.proofs.depends.+claims.Given as goal
 
-abbrev pub decreases-table_depends : goal.decreases-table_depends
-decreases-table_depends l = 2 * length l.table.now
+abbrev pub decreases-behind_name : goal.decreases-behind_name
+decreases-behind_name l = 3 * length l.rows.now + weight l.parts.now + 2
+
+abbrev pub decreases-rows_depend : goal.decreases-rows_depend
+decreases-rows_depend l = 3 * length l.rows.now + weight l.parts.now + 1
 
 abbrev pub decreases-block_depends : goal.decreases-block_depends
-decreases-block_depends l = 2 * length l.block.now + 1
+decreases-block_depends l = 3 * length l.block.now + 3
 
-abbrev pub invariant-table_depends-loop-row : goal.invariant-table_depends-loop-row
-invariant-table_depends-loop-row l =
-    (length l.rows ≤ length l.fn.table)
-    × (table_depends l.fn.shown l.known l.rows ≡ table_depends l.fn.shown l.fn.known l.fn.table)
-    × (behind_table l.fn.shown l.known l.rows ≡ behind_table l.fn.shown l.fn.known l.fn.table)
-
-abbrev pub decreases-table_depends-loop-row : goal.decreases-table_depends-loop-row
-decreases-table_depends-loop-row l = length l.rows
+abbrev pub decreases-parts_depend : goal.decreases-parts_depend
+decreases-parts_depend l = weight l.parts.now

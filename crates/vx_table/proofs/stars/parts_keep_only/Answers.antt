@@ -6,4 +6,4 @@ use Rattle.vx_table.proofs.stars.parts_keep_only.Goals as goal
 pub returns-clause-keeps : goal.returns-clause-keeps
 returns-clause-keeps c = λ it_does.
     structure_keeps_only c.args.given.now c.args.shown.now (sections_of c.args.parts.now)
-    (rw (c.with_all.ensures, c.with_all-known.ensures, c.new.ensures) at (sym c.parts_stars_tell.ensures ∙ it_does))
+    (sym c.parts_stars_tell.ensures ∙ it_does)

@@ -5,9 +5,9 @@ use Rattle.vx_table.proofs.rewriter.Rewriter.take.Goals as goal
 pub returns-then-has : goal.returns-then-has
 returns-then-has c =
     let is = sym c.has.ensures ∙ c.if-has.true in
-    rw (← c.self.view_is) (takes_next_shown c.self.inside.names c.args.cell c.take_value.result c.self.inside.others c.self.inside.shown c.take_value.new.items is c.take_value.ensures)
+    rw (← c.self.view_is) (takes_next_shown c.self.inside.names.now c.args.cell c.take_value.result c.self.inside.others c.self.inside.shown c.take_value.new.items is c.take_value.ensures)
 
 pub returns-else-has : goal.returns-else-has
 returns-else-has c =
     let is = sym c.has.ensures ∙ c.if-has.false in
-    rw (← c.self.view_is) (takes_next_other c.self.inside.names c.args.cell c.take_value-else-has.result c.self.inside.others c.self.inside.shown c.take_value-else-has.new.items is c.take_value-else-has.ensures)
+    rw (← c.self.view_is) (takes_next_other c.self.inside.names.now c.args.cell c.take_value-else-has.result c.self.inside.others c.self.inside.shown c.take_value-else-has.new.items is c.take_value-else-has.ensures)

@@ -1,0 +1,2 @@
+-- What serves bodies alone.
+pub mod Names
