@@ -2,6 +2,8 @@
 use Rattle.std.proofs.Common.{◌≡◌, ◌≢◌, ℕ, zero, suc, ◌+◌, ◌≤◌, Bool, true, false, ◌&&◌, List, [], ◌∷◌, length, drop, refl, sym, ◌∙◌, ap, arith, add-one}
 use Rattle.std.specs.Prelude.{Some, slice_get}
 use Rattle.std.proofs.Math.Seq.{drop-cons}
+use Rattle.std.proofs.lemmas.Bool.{eq-eqb}
+use Rattle.std.specs.Cmp.{int_eq_equiv}
 use Rattle.std.proofs.lemmas.Option.{slice_get_within, get_or_from_slice_get}
 use Rattle.vx_bits.specs.declared.list.Item.{Item}
 use Rattle.vx_pic.specs.Sets.{same_item, same_items}
@@ -18,6 +20,10 @@ dropped_all (x ∷ xs) zero h = absurd (omega arith)
 dropped_all (x ∷ xs) (suc i) h = dropped_all xs i (omega arith)
 
 -- ---- lists of the same items
+
+pub same_itself : (items : List Item) → same_items items items ≡ true
+same_itself [] = refl
+same_itself (x ∷ items) = rw (eq-eqb x.field x.field refl, int_eq_equiv.refl x.value, same_itself items) refl
 
 and_false : (b : Bool) → (b && false) ≡ false
 and_false true = refl

@@ -25,7 +25,7 @@ use Rattle.vx_assemble.specs.declared.state.State.{State}
 use Rattle.vx_assemble.specs.declared.readers.ReadSlice.{ReadSlice}
 use Rattle.vx_assemble.specs.declared.slices.Opened.{Opened}
 use Rattle.vx_assemble.specs.inner.Order.{IsSlot, AreSlots, IsOrdered}
-use Rattle.vx_assemble.specs.inner.Held.{begun_of, header_at, kind_at, slice_of, IsHeaded, IsGoing, Keeps, last_sps, IsApart, IsHeld, AreItems}
+use Rattle.vx_assemble.specs.inner.Held.{begun_of, header_at, kind_at, slice_of, IsHeaded, IsGoing, Keeps, last_held, last_sps, IsApart, IsHeld, AreItems}
 use Rattle.vx_assemble.specs.inner.Takes.{slice_read_as}
 use Rattle.vx_assemble.specs.inner.Changes.{counts_behind, slot_behind, first_comes, with_slice, with_begun_picture, came_all, settled}
 use Rattle.vx_assemble.specs.inner.Slices.{told_settled, with_first}
@@ -36,7 +36,7 @@ pub record IsUnsettled (s : State) (before : List Reading) (p : Picture) (earlie
   pub pps : (id : ℕ) → slice_index_or s.pps id None ≡ stored_pps id before
   pub aps : s.aps ≡ stored_sets before
   pub messages : s.gathered ≡ gathered before
-  pub last : option_map (λ f. f.sps) s.last ≡ last_sps earlier
+  pub last : last_held s ≡ last_sps earlier
   pub counts : previous_of s.previous ≡ previous earlier
   pub ended : s.ended ≡ is_ended before
   pub goes : IsGoing s.picture p

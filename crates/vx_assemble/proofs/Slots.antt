@@ -21,7 +21,7 @@ use Rattle.vx_assemble.specs.declared.state.Stage.{Stage}
 use Rattle.vx_assemble.specs.declared.state.Stage.TheVariants as stages
 use Rattle.vx_assemble.specs.declared.state.State.{State}
 use Rattle.vx_assemble.specs.inner.Held.{begun_of, header_at, kind_at, slice_of}
-use Rattle.vx_assemble.specs.inner.Order.{IsHeader, IsOfUnit, IsSlot, AreSlots, AreRead, AreBodies, IsOrdered, IsInOrder, AreAll, IsComplete}
+use Rattle.vx_assemble.specs.inner.Order.{AreUnder, begun_sps, IsHeader, IsOfUnit, IsSlot, AreSlots, AreRead, AreBodies, IsOrdered, KnowsSps, IsInOrder, AreAll, IsComplete}
 use Rattle.vx_assemble.specs.inner.Takes.{at_begun, header_read_as}
 use Rattle.vx_assemble.specs.declared.slices.Opened.{Opened}
 use Rattle.vx_assemble.specs.declared.slices.Whole.{Whole}
@@ -147,8 +147,25 @@ kind_ordered k sets m c o of few are = record {
   bodies = are;
 }
 
-pub begun_ordered : (c : CurrentPicture) (s : State) → IsInOrder s → IsOrdered c → IsInOrder (with_begun_picture c s)
-begun_ordered c s o is = record { sps = o.sps; pps = o.pps; aps = o.aps; made = o.made; picture = is; spelled = refl; gathered = omega arith }
+pub begun_ordered : (c : CurrentPicture) (s : State) → IsInOrder s → IsOrdered c → begun_sps s.picture.stage ≡ begun_sps c.stage
+    → IsInOrder (with_begun_picture c s)
+begun_ordered c s o is same = record {
+  sps = o.sps;
+  pps = o.pps;
+  aps = o.aps;
+  made = o.made;
+  under = subst (λ x. AreUnder x s.made) same o.under;
+  known = λ t. o.known t ∙ same;
+  picture = is;
+  spelled = refl;
+  gathered = omega arith;
+}
+
+-- the header stays at the first slice
+pub first_begun : (k : Kind) (t : Stage) → begun_sps t ≡ begun_sps (first_comes k t)
+first_begun k stages.Nothing = refl
+first_begun k (stages.Headed b) = refl
+first_begun k (stages.Going g) = refl
 
 -- ---- whole pictures
 
@@ -172,12 +189,31 @@ pub complete_is : (s : State) (w : Whole) → IsOrdered s.picture → whole_of s
 complete_is s w o whole some = record { slices = all_came s.picture.stage s w o.slots whole some }
 
 -- what is told then, and kept
-pub settles_whole : (s new : State) (w : Whole) → whole_of s.picture.stage s ≡ Some w → new ≡ record s { last = Some w.sets; previous = w.previous }
+pub settles_whole : (s new : State) (w : Whole) → whole_of s.picture.stage s ≡ Some w → new ≡ record s { last = Some w.sets; unchanged = true; previous = w.previous }
     → IsSettled s new accepted.PictureDone
 settles_whole s new w whole is = record {
   new_is = λ g going. let t = came_by (came_all g.begun s.picture) _ w (sym (ap (λ x. whole_of x s) going) ∙ whole) in
       is ∙ rw (t.0, ← t.1) refl;
   told = λ g going. let t = came_by (came_all g.begun s.picture) _ w (sym (ap (λ x. whole_of x s) going) ∙ whole) in rw t.0 refl;
+}
+
+whole_sps : (t : Stage) (s : State) (w : Whole) → whole_of t s ≡ Some w → Some w.sets.sps ≡ begun_sps t
+whole_sps stages.Nothing s w whole = absurd (let e : None ≡ Some w = whole in cc)
+whole_sps (stages.Headed b) s w whole = absurd (let e : None ≡ Some w = whole in cc)
+whole_sps (stages.Going g) s w whole = ap (λ x. Some x.sets.sps) (sym (came_by (came_all g.begun s.picture) _ w whole).1)
+
+pub whole_ordered : (s : State) (w : Whole) → IsInOrder s → whole_of s.picture.stage s ≡ Some w
+    → IsInOrder (record s { last = Some w.sets; unchanged = true; previous = w.previous })
+whole_ordered s w o whole = record {
+  sps = o.sps;
+  pps = o.pps;
+  aps = o.aps;
+  made = o.made;
+  under = o.under;
+  known = λ t. whole_sps s.picture.stage s w whole;
+  picture = o.picture;
+  spelled = o.spelled;
+  gathered = o.gathered;
 }
 
 not_by : {A : Type 0} (t : Bool) (w : A) → cond t (Some w) None ≡ None → t ≡ false
@@ -205,6 +241,10 @@ joined_first c d o m size has is =
 pub joined_further : (c : CurrentPicture) (g : GoingPicture) (r : ReadSlice) (size : ℕ) → c.stage ≡ stages.Going g
     → IsJoined g.begun g.kind.nal_type c.bodies size r → HasJoined c size r
 joined_further c g r size is joined = record { going = g; is = is; joined = joined }
+
+-- its SPS is the last whole picture's, where that is known
+pub headed_known : (s : State) (b : BegunPicture) → IsInOrder s → s.picture.stage ≡ stages.Headed b → KnowsSps s (Some b.sets.sps)
+headed_known s b o is = λ t. o.known t ∙ ap begun_sps is
 
 pub joined_headed : (c : CurrentPicture) (b : BegunPicture) (o : Opened) (size : ℕ) → c.stage ≡ stages.Headed b
     → IsJoined b o.kind.nal_type o.bodies size o.read → HasJoinedFirst c size o

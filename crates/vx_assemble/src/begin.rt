@@ -53,6 +53,16 @@ impl State {
         Ok(SetPair { sps, pps })
     }
 
+    /// Whether what the sets that a PPS id refers to make up is kept.
+    fn has_made(&self, id: u8) -> bool
+        ensures { result ≡ changes.is_made id self.now.made }
+    {
+        match &self.made {
+            Some(made) => made.id == id,
+            None => false,
+        }
+    }
+
     /// The sets that a PPS id refers to, where what they make up is kept.
     fn made_of(&self, id: u8) -> Option<&Shared<InForce>>
         requires { IsInOrder self.now }
@@ -155,9 +165,11 @@ impl State {
         ensures err { OnErr result (self.new ≡ self.old) }
     {
         let id = begun.pps_id;
+        let unchanged = self.unchanged && self.has_made(id);
         let sets = begun.sets.share()?;
         self.picture.start(alloc, begun, unit)?;
         self.made = Some(MadeSets { id, sets });
+        self.unchanged = unchanged;
         Ok(())
     }
 }

@@ -1,7 +1,8 @@
 //! A picture that begins with its first slice.
-ghost use Rattle.std.specs.Prelude.{◌≡◌, ◌^◌, ◌<◌, ◌≤◌, option_map, IfOk};
+ghost use Rattle.std.specs.Prelude.{◌≡◌, ◌^◌, ◌<◌, ◌≤◌, Some, IfOk};
 ghost use Rattle.vx_pic.specs.Sets as sets;
-ghost use Rattle.vx_assemble.specs.inner.Held.{begun_of};
+ghost use Rattle.vx_assemble.specs.inner.Held.{begun_of, last_held};
+ghost use Rattle.vx_assemble.specs.inner.Order.{KnowsSps};
 ghost use Rattle.vx_assemble.specs.inner.Opening.{held_anew, held_changed, opened_in, IsCountedBy, tid0_by};
 ghost use Rattle.vx_assemble.specs.inner.Changes as changes;
 
@@ -89,22 +90,28 @@ impl State {
         self.ended || self.last.is_none()
     }
 
-    /// Whether the SPS is another one than that of the picture before.
+    /// Whether the SPS of the picture that was begun last is another one than that of the picture before.
+    #[tactic(auto, using(crate::proofs::Openings::held_same))]
     fn changes(&self, sps: &Sps) -> bool
-        ensures { result ≡ held_changed (option_map (λ f. f.sps) self.now.last) sps.now }
+        requires { KnowsSps self.now (Some sps.now) }
+        ensures { result ≡ held_changed (last_held self.now) sps.now }
     {
+        if self.unchanged {
+            return false;
+        }
         match &self.last {
             Some(last) => !same_items(last.value().sps.value().fields(), sps.fields()),
             None => false,
         }
     }
 
-    /// What a picture is, whose first slice is of a unit with this header.
+    /// What the picture that was begun last is, whose first slice is of a unit with this header.
     ///
     /// # Errors
     ///
     /// It starts elsewhere than at an IRAP or GDR picture, its SPS has changed, or its count is out of range.
     pub(crate) fn open(&self, begun: &BegunPicture, header: NalHeader) -> Result<Kind, Refusal>
+        requires { KnowsSps self.now (Some begun.now.sets.sps) }
         ensures value { result ≡ opened_in self.now (begun_of begun.now None) header.nal_type header.temporal_id }
         ensures heads { IfOk result (λ kind. (kind.nal_type ≡ header.nal_type) × (kind.temporal_id ≡ header.temporal_id)) }
     {

@@ -1,12 +1,12 @@
 //! Slices taken.
-ghost use Rattle.std.specs.Prelude.{◌≡◌, ◌+◌, ◌<◌, ◌≤◌, false, [], length, List, IfOk, OnOk};
+ghost use Rattle.std.specs.Prelude.{◌≡◌, ◌+◌, ◌<◌, ◌≤◌, false, [], length, List, Some, IfOk, OnOk};
 ghost use Rattle.vx_pic.specs.declared.accepted.Accepted.TheVariants.{PictureDone};
 ghost use Rattle.vx_pic.specs.Readings.{Begun, Reading, Picture, current, going, is_whole};
 ghost use Rattle.vx_pic.specs.Rules.{Readers, first, further, follows, alone, reads_as, picture_limit};
 ghost use Rattle.vx_pic.specs.Units as units;
 ghost use Rattle.vx_pic.specs.H266.{AreOfH266};
 ghost use Rattle.vx_assemble.specs.inner.Held.{IsApart, IsHeaded, IsGoing, IsHeld};
-ghost use Rattle.vx_assemble.specs.inner.Order.{IsHeader, IsInOrder, AreBodies, IsComplete};
+ghost use Rattle.vx_assemble.specs.inner.Order.{IsHeader, IsInOrder, KnowsSps, AreBodies, IsComplete};
 ghost use Rattle.vx_assemble.specs.inner.Takes.{Gives, answer_by, TakesUnit};
 ghost use Rattle.vx_assemble.specs.inner.Joining.{IsJoined};
 ghost use Rattle.vx_assemble.specs.inner.Changes as changes;
@@ -55,7 +55,7 @@ fn header_is_low(unit: SliceUnit<'_>)
 }
 
 impl State {
-    /// What the picture of a header begins with, at this unit.
+    /// What the picture of the header that came last begins with, at this unit.
     ///
     /// # Errors
     ///
@@ -68,6 +68,7 @@ impl State {
     ) -> Result<Opened, ReadError>
         requires size { length self.now.picture.bytes ≤ picture_limit }
         requires header { IsHeader begun.now }
+        requires sps { KnowsSps self.now (Some begun.now.sets.sps) }
         ensures answer { (R : Readers) → AreOfH266 R → (before : List Reading) → IsApart self.now before → (b : Begun) → IsFresh self.now.picture begun.now b
             → Gives (first R before b unit.entry.bytes.now) (answer_by (first_read_as b unit.entry.bytes.now) result) }
         ensures joined { IfOk result (λ o. IsJoined begun.now o.kind.nal_type o.bodies (length unit.entry.bytes.now) o.read) }
@@ -180,6 +181,7 @@ impl State {
             return Ok(Accepted::Nothing);
         };
         self.last = Some(whole.sets);
+        self.unchanged = true;
         self.previous = whole.previous;
         Ok(Accepted::PictureDone)
     }

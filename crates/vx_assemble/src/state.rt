@@ -94,6 +94,8 @@ pub(crate) struct State {
     pub gathered_len: usize,
     /// The sets of the last whole picture.
     pub last: Option<Shared<InForce>>,
+    /// Whether the SPS of the picture that was begun last is known to be that of the last whole one.
+    pub unchanged: bool,
     /// What counts come from.
     pub previous: PrevTid0,
     /// Whether a sequence ended since the last slice.
@@ -134,6 +136,7 @@ impl State {
             gathered: MessageList::new(alloc),
             gathered_len: 0,
             last: None,
+            unchanged: false,
             previous: PrevTid0::default(),
             ended: false,
         }

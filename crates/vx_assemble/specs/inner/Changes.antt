@@ -1,5 +1,5 @@
 -- What an assembler keeps, with one thing more.
-use Rattle.std.specs.Prelude.{◌≡◌, ◌<◌, ℕ, ◌+◌, ◌==◌, cond, List, [], ◌∷◌, ◌++◌, length, Option, Some, None, slice_set, Bool, true, false}
+use Rattle.std.specs.Prelude.{◌≡◌, ◌<◌, ℕ, ◌+◌, ◌==◌, ◌&&◌, cond, List, [], ◌∷◌, ◌++◌, length, Option, Some, None, slice_set, Bool, true, false}
 use Rattle.vx_bits.specs.declared.list.Item.{Item}
 use Rattle.vx_aps.specs.declared.aps.Aps.{Aps}
 use Rattle.vx_sei.specs.declared.message.Message.{Message}
@@ -75,9 +75,18 @@ with_slice unit r c = with_slot (slot_behind (length c.bytes) unit r) (with_byte
 abbrev pub with_picture : CurrentPicture → State → State
 with_picture c s = record s { picture = c }
 
+-- what the sets that a PPS id refers to make up is kept
+abbrev pub is_made : ℕ → Option MadeSets → Bool
+is_made id None = false
+is_made id (Some m) = m.id == id
+
 -- a picture begins with such a header, and what is in force for it is kept
 abbrev pub with_begun : BegunPicture → List ℕ → State → State
-with_begun b unit s = record s { made = Some (record { id = b.pps_id; sets = b.sets }); picture = with_header b unit s.picture }
+with_begun b unit s = record s {
+  made = Some (record { id = b.pps_id; sets = b.sets });
+  picture = with_header b unit s.picture;
+  unchanged = s.unchanged && is_made b.pps_id s.made;
+}
 
 -- and no messages are gathered then, and no sequence has ended
 abbrev pub with_begun_picture : CurrentPicture → State → State
@@ -89,7 +98,7 @@ abbrev pub counts_behind : BegunPicture → Kind → PrevTid0 → PrevTid0
 counts_behind b k old = cond (is_tid0 (begun_of b None) k) (record { lsb = lsb_of b.header.fields; poc = k.poc }) old
 
 abbrev pub with_whole : BegunPicture → Kind → State → State
-with_whole b k s = record s { last = Some b.sets; previous = counts_behind b k s.previous }
+with_whole b k s = record s { last = Some b.sets; unchanged = true; previous = counts_behind b k s.previous }
 
 abbrev pub came_all : BegunPicture → CurrentPicture → Bool
 came_all b c = length c.slices == b.sets.slices

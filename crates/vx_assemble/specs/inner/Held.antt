@@ -88,13 +88,17 @@ abbrev pub last_sps : List Picture → Option (List Item)
 last_sps [] = None
 last_sps (p ∷ earlier) = Some p.begun.sps
 
+-- of what is kept
+abbrev pub last_held : State → Option (List Item)
+last_held s = option_map (λ f. f.sps) s.last
+
 -- what is kept apart from that picture, behind units that were read as these, the latest first
 pub record IsApart (s : State) (before : List Reading) : Type 0 where
   pub sps : (id : ℕ) → slice_index_or s.sps id None ≡ stored_sps id before
   pub pps : (id : ℕ) → slice_index_or s.pps id None ≡ stored_pps id before
   pub aps : s.aps ≡ stored_sets before
   pub gathered : s.gathered ≡ gathered before
-  pub last : option_map (λ f. f.sps) s.last ≡ last_sps (pictures before)
+  pub last : last_held s ≡ last_sps (pictures before)
   pub previous : previous_of s.previous ≡ previous (pictures before)
   pub ended : s.ended ≡ is_ended before
 

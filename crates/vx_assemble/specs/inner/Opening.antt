@@ -1,5 +1,5 @@
 -- What an assembler makes of a picture that begins, from what it keeps.
-use Rattle.std.specs.Prelude.{◌≡◌, ℕ, ◌^◌, ◌==◌, ◌&&◌, ◌||◌, not, Bool, false, List, Option, Some, None, is_none, option_map, Result}
+use Rattle.std.specs.Prelude.{◌≡◌, ℕ, ◌^◌, ◌==◌, ◌&&◌, ◌||◌, not, Bool, false, List, Option, Some, None, is_none, Result}
 use Rattle.vx_bits.specs.declared.list.Item.{Item}
 use Rattle.vx_bits.specs.declared.refusal.Refusal.{Refusal}
 use Rattle.vx_pic.specs.declared.kind.Kind.{Kind}
@@ -12,6 +12,7 @@ use Rattle.vx_pic.specs.Counts.{count_by}
 use Rattle.vx_pic.specs.Counted.{previous_of}
 use Rattle.vx_pic.specs.Rules.{opened_as}
 use Rattle.vx_assemble.specs.declared.state.State.{State}
+use Rattle.vx_assemble.specs.inner.Held.{last_held}
 
 abbrev pub held_anew : State → Bool
 held_anew s = s.ended || is_none s.last
@@ -34,7 +35,7 @@ held_kind s b t tid = record {
 
 abbrev pub opened_in : State → Begun → ℕ → ℕ → Result Kind Refusal
 opened_in s b t tid =
-    opened_as (held_anew s && not (is_irap_or_gdr t)) (held_changed (option_map (λ f. f.sps) s.last) b.sps) (held_kind s b t tid)
+    opened_as (held_anew s && not (is_irap_or_gdr t)) (held_changed (last_held s) b.sps) (held_kind s b t tid)
 
 -- what the code of counts is given
 pub record IsCountedBy (c : CountFields) (sps header : List Item) : Type 0 where

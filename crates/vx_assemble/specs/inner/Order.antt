@@ -1,5 +1,5 @@
 -- What holds of all that an assembler keeps: it lies in order, within the limits.
-use Rattle.std.specs.Prelude.{◌≡◌, ℕ, ◌≤◌, ◌<◌, List, length, Option, Some, None, true}
+use Rattle.std.specs.Prelude.{◌≡◌, ℕ, ◌≤◌, ◌<◌, List, length, Option, Some, None, option_map, true}
 use Rattle.std.specs.List.{AllByRecursion, slice_index_or}
 use Rattle.vx_bits.specs.declared.list.Item.{Item}
 use Rattle.vx_aps.specs.declared.aps.Aps.{Aps}
@@ -22,7 +22,7 @@ use Rattle.vx_assemble.specs.declared.state.MadeSets.{MadeSets}
 use Rattle.vx_assemble.specs.declared.state.Stage.{Stage}
 use Rattle.vx_assemble.specs.declared.state.Stage.TheVariants as stages
 use Rattle.vx_assemble.specs.declared.state.State.{State}
-use Rattle.vx_assemble.specs.inner.Held.{begun_of, slice_of, header_at, kind_at}
+use Rattle.vx_assemble.specs.inner.Held.{begun_of, slice_of, header_at, kind_at, last_held}
 use Rattle.vx_assemble.specs.inner.Takes.{NamesSmall, at_begun}
 
 -- what two sets make up
@@ -47,6 +47,19 @@ pub record AreStored (sps pps : List (Option (List Item))) (m : MadeSets) : Type
 abbrev pub AreKept : List (Option (List Item)) → List (Option (List Item)) → Option MadeSets → Type 0
 AreKept sps pps None = Unit {0}
 AreKept sps pps (Some m) = AreStored sps pps m
+
+-- the SPS of the header that came last
+abbrev pub begun_sps : Stage → Option (List Item)
+begun_sps stage = option_map (λ b. b.sets.sps) (header_at stage)
+
+-- the sets that are kept are under this SPS
+abbrev pub AreUnder : Option (List Item) → Option MadeSets → Type 0
+AreUnder sps None = Unit {0}
+AreUnder sps (Some m) = sps ≡ Some m.sets.sps
+
+-- this is the SPS of the last whole picture, where that is known of the picture that was begun last
+abbrev pub KnowsSps : State → Option (List Item) → Type 0
+KnowsSps s sps = s.unchanged ≡ true → last_held s ≡ sps
 
 -- a picture header, with the lists that its items come to, and ids that there are
 pub record IsHeader (b : BegunPicture) : Type 0 where
@@ -99,6 +112,8 @@ pub record IsInOrder (s : State) : Type 0 where
   pub pps : length s.pps ≡ 64
   pub aps : AreBodies s.aps
   pub made : AreKept s.sps s.pps s.made
+  pub under : AreUnder (begun_sps s.picture.stage) s.made
+  pub known : KnowsSps s (begun_sps s.picture.stage)
   pub picture : IsOrdered s.picture
   pub spelled : s.gathered_len ≡ spelled_length s.gathered
   pub gathered : s.gathered_len ≤ message_limit
