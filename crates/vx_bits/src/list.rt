@@ -49,6 +49,17 @@ impl<T: Drop, By> Entries<T, By> {
         }
     }
 
+    /// Makes room for sixteen further entries, or twice as many as there are, where there is none.
+    #[inline(always)]
+    fn make_room(&mut self) -> Result<(), AllocError>
+        ensures { self.new ≡ self.old }
+    {
+        if self.entries.len() == self.entries.capacity() {
+            self.entries.reserve(16)?;
+        }
+        Ok(())
+    }
+
     /// Appends an entry.
     ///
     /// # Errors
@@ -59,6 +70,7 @@ impl<T: Drop, By> Entries<T, By> {
         ensures ok { OnOk result (self.new ≡ self.old ++ entry ∷ []) }
         ensures err { OnErr result (self.new ≡ self.old) }
     {
+        self.make_room()?;
         self.entries.push(entry)?;
         Ok(())
     }
