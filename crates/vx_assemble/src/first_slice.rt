@@ -100,7 +100,10 @@ impl State {
             return false;
         }
         match &self.last {
-            Some(last) => !same_items(last.value().sps.value().fields(), sps.fields()),
+            Some(last) => {
+                let kept = last.value().sps.value().fields();
+                !same_items(kept.as_slice(), sps.fields().as_slice())
+            }
             None => false,
         }
     }

@@ -75,7 +75,7 @@ impl ParameterSet for Sps {
 
     #[tactic(auto, using(crate::proofs::Again::same_sets))]
     fn is_same(&self, other: &Sps) -> bool {
-        same_items(self.fields(), other.fields())
+        same_items(self.fields().as_slice(), other.fields().as_slice())
     }
 }
 
@@ -101,7 +101,7 @@ impl ParameterSet for Pps {
 
     #[tactic(auto, using(crate::proofs::Again::same_sets))]
     fn is_same(&self, other: &Pps) -> bool {
-        same_items(self.fields(), other.fields())
+        same_items(self.fields().as_slice(), other.fields().as_slice())
     }
 }
 
