@@ -4,6 +4,7 @@ use Rattle.std.proofs.Math.Path.{fun_ext}
 use Rattle.std.specs.Prelude.{◌==◌, ◌⊎◌, IsTrue, sum_by, unwrap_or}
 use Rattle.std.specs.List.{AllByRecursion, AllZip}
 use Rattle.std.specs.Option.{option_or}
+use Rattle.std.specs.Global.{Box}
 use Rattle.std.proofs.lemmas.Bool.{cases_Bool, eqb-true, false≢true}
 use Rattle.std.proofs.lemmas.List.{length-map}
 use Rattle.vx_bits.specs.declared.list.Item.{Item}
@@ -306,7 +307,7 @@ module _ (kept round : List Parts) (same : HaveSameSets kept round) where
 pub past_of : (corners : List Corner) (level : Option ℕ) (round : List Parts) (f : Frame) → IsKeptFrame corners level f → HasSetsOf round f → HavePassed corners round
 past_of corners level round f is sets = record { kept = is.kept; count = is.is.count; passes = is.is.passes; same = sym is.sets ∙ sets }
 
-pub some_kept : (corners : List Corner) (level : Option ℕ) (kept : Option Frame) → IfSome kept (IsKeptFrame corners level) → IfSome kept (IsSomeKept corners)
+pub some_kept : (corners : List Corner) (level : Option ℕ) (kept : Option (Box Frame)) → IfSome kept (λ f. IsKeptFrame corners level f.value) → IfSome kept (λ f. IsSomeKept corners f.value)
 some_kept corners level None is = tt
 some_kept corners level (Some f) is = (level, is)
 
@@ -316,10 +317,11 @@ sources_count corners level f is =
     sym (length-map f.sources.items sets_in) ∙ (ap length is.sets ∙ (length-map is.kept sets_of ∙ sym is.is.count))
 
 -- it serves for a round with the same sets
-pub kept_serves : (corners : List Corner) (level : Option ℕ) (round : List Parts) (f : Frame) → AllByRecursion AreInForce round → IsKeptFrame corners level f → HasSetsOf round f
+pub kept_serves : (corners : List Corner) (level : Option ℕ) (round : List Parts) (f : Box Frame) → AllByRecursion AreInForce round → IsKeptFrame corners level f.value
+    → HasSetsOf round f.value
     → IsRoundFrame corners level round (Kept f)
 kept_serves corners level round f are is sets =
-    (record { is = frame_for_too is.kept round (sym is.sets ∙ sets) corners level f are is.is.is; sets = sets }, past_of corners level round f is sets)
+    (record { is = frame_for_too is.kept round (sym is.sets ∙ sets) corners level f.value are is.is.is; sets = sets }, past_of corners level round f.value is sets)
 
 -- a round that has the same sets breaks none of the rules on them
 module _ (corners : List Corner) (round : List Parts) (count : length corners ≡ length round) (past : HavePassed corners round) where

@@ -63,7 +63,7 @@ pub(crate) struct Frame {
 #[derive(Drop)]
 pub(crate) enum RoundFrame {
     /// It was kept, and made of the same sets.
-    Kept(Frame),
+    Kept(Box<Frame>),
     /// It is new, and has this geometry.
     New(FrameGeometry),
 }
@@ -146,13 +146,13 @@ fn new_frame(
 pub(crate) fn round_frame(
     alloc: Global,
     corners: &[Corner],
-    kept: Option<Frame>,
+    kept: Option<Box<Frame>>,
     round: &[Picture<'_>],
 ) -> Result<RoundFrame, WriteError>
     requires corners { AreCorners corners.now }
     requires same { length corners.now ≡ length round.now }
-    requires kept { IfSome kept (IsSomeKept corners.now) }
-    ensures { (level : Option ℕ) → IfSome kept (IsKeptFrame corners.now level)
+    requires kept { IfSome kept (λ f. IsSomeKept corners.now f.value) }
+    ensures { (level : Option ℕ) → IfSome kept (λ f. IsKeptFrame corners.now level f.value)
         → Tries (length round.now) (rules_of_sets corners.now round.now) (IsRoundFrame corners.now level round.now) result }
 {
     let Some(frame) = kept else {
@@ -207,21 +207,22 @@ fn frame_with(
     level: Option<u8>,
     geometry: FrameGeometry,
     round: &[Picture<'_>],
-) -> Result<Frame, AllocError>
+) -> Result<Box<Frame>, AllocError>
     requires { (corners : List AnyCorner) × IsRoundGeometry corners round.now geometry }
-    ensures { (corners : List AnyCorner) → IsRoundGeometry corners round.now geometry → IfOk result (IsFrameOf corners level round.now) }
+    ensures { (corners : List AnyCorner) → IsRoundGeometry corners round.now geometry → IfOk result (λ f. IsFrameOf corners level round.now f.value) }
 {
     let sources = sources(alloc, round)?;
     let layout = layout_of(alloc, &geometry)?;
     let (sps, plain) = sets_for(alloc, round, &geometry, level)?;
-    Ok(Frame {
+    let frame = Frame {
         sources,
         geometry,
         layout,
         sps,
         plain,
         renamed: None,
-    })
+    };
+    Ok(Box::new(alloc, frame)?)
 }
 
 /// The frame of a round.
@@ -230,9 +231,9 @@ pub(crate) fn whole_frame(
     level: Option<u8>,
     frame: RoundFrame,
     round: &[Picture<'_>],
-) -> Result<Frame, AllocError>
+) -> Result<Box<Frame>, AllocError>
     requires { IsSomeRound level round.now frame }
-    ensures { (corners : List AnyCorner) → IsRoundFrame corners level round.now frame → IfOk result (IsFrameOf corners level round.now) }
+    ensures { (corners : List AnyCorner) → IsRoundFrame corners level round.now frame → IfOk result (λ f. IsFrameOf corners level round.now f.value) }
 {
     match frame {
         RoundFrame::Kept(frame) => Ok(frame),

@@ -139,7 +139,7 @@ fn ctb_of(round: &[Picture<'_>]) -> u32
     round[0].sps().ctb()
 }
 
-/// The same, where the sets break no rule on them.
+/// What [`frame_regions`] makes, where the sets break no rule on them.
 fn tried_regions(
     alloc: Global,
     corners: &[Corner],

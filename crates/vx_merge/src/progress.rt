@@ -6,7 +6,7 @@ use vx_write::Slots;
 #[derive(Drop)]
 pub(crate) struct Progress {
     /// The frame of the last round.
-    pub(crate) frame: Option<Frame>,
+    pub(crate) frame: Option<Box<Frame>>,
     /// The last sets that were sent.
     pub(crate) slots: Slots,
     /// How many bytes were written.

@@ -208,15 +208,15 @@ fn sound_frame(
     alloc: Global,
     corners: &[Corner],
     level: Option<u8>,
-    kept: Option<Frame>,
+    kept: Option<Box<Frame>>,
     round: &[Picture<'_>],
     bodies: &RoundBodies<'_>,
-) -> Result<Frame, WriteError>
+) -> Result<Box<Frame>, WriteError>
     requires corners { AreCorners corners.now }
     requires same { length corners.now ≡ length round.now }
-    requires kept { IfSome kept (IsKeptFrame corners.now level) }
+    requires kept { IfSome kept (λ f. IsKeptFrame corners.now level f.value) }
     requires bodies { AreGathered round.now bodies.now }
-    ensures { Tries (length round.now) (rules_of corners.now round.now) (IsFrameOf corners.now level round.now) result }
+    ensures { Tries (length round.now) (rules_of corners.now round.now) (λ f. IsFrameOf corners.now level round.now f.value) result }
 {
     let begun = round_frame(alloc, corners, kept, round)?;
     check_pictures(alloc, round, bodies, &begun)?;
@@ -233,23 +233,24 @@ fn sound_units<'a>(
     alloc: Global,
     corners: &[Corner],
     level: Option<u8>,
-    kept: &mut Option<Frame>,
+    kept: &mut Option<Box<Frame>>,
     slots: &mut Slots,
     round: &[Picture<'a>],
 ) -> Result<RoundUnits<'a>, WriteError>
     requires corners { AreCorners corners.now }
     requires same { length corners.now ≡ length round.now }
-    requires kept { IfSome kept.old (IsKeptFrame corners.now level) }
+    requires kept { IfSome kept.old (λ f. IsKeptFrame corners.now level f.value) }
     requires slots { HasHistory slots.old }
-    ensures kept { OnOk result (IfSome kept.new (IsKeptFrame corners.now level)) }
+    ensures kept { OnOk result (IfSome kept.new (λ f. IsKeptFrame corners.now level f.value)) }
     ensures payloads { IfOk result HasPayloads }
     ensures units { (history : List SetUnit) → AreLastOf history slots.old
         → Tries (length round.now) (rules_of corners.now round.now) (AreUnitsOf corners.now level round.now history slots.new) result }
 {
     let bodies = round_bodies(alloc, round)?;
     let mut frame = sound_frame(alloc, corners, level, kept.take(), round, &bodies)?;
-    let units = units_behind(alloc, &mut frame, slots, round, bodies)?;
+    let made = units_behind(alloc, &mut frame, slots, round, bodies);
     *kept = Some(frame);
+    let units = made?;
     Ok(units)
 }
 

@@ -122,7 +122,7 @@ pub record HavePassed (corners : List Corner) (round : List Parts) : Type 0 wher
 
 -- the frame that was kept serves for the round, or the geometry is that of its frame
 abbrev pub IsRoundFrame : List Corner → Option ℕ → List Parts → RoundFrame → Type 0
-IsRoundFrame corners level round (Kept f) = IsFrameOf corners level round f × HavePassed corners round
+IsRoundFrame corners level round (Kept f) = IsFrameOf corners level round f.value × HavePassed corners round
 IsRoundFrame corners level round (New g) = IsRoundGeometry corners round g
 
 abbrev pub IsSomeRound : Option ℕ → List Parts → RoundFrame → Type 0

@@ -8,7 +8,7 @@ use Rattle.vx_merge.specs.inner.Frames.{IsKeptFrame}
 
 -- the frame that is kept is one of these corners, at this level, and the slots are the last of some sets
 pub record IsProgress (corners : List Corner) (level : Option ℕ) (p : Progress) : Type 0 where
-  pub frame : IfSome p.frame (IsKeptFrame corners level)
+  pub frame : IfSome p.frame (λ f. IsKeptFrame corners level f.value)
   pub slots : HasHistory p.slots
 
 -- a merger that goes on with it

@@ -1,5 +1,7 @@
+use Rattle.std.proofs.Common.{sym, subst}
 use Rattle.std.proofs.lemmas.List.Elements.{All-from_recursion}
 use Rattle.vx_write.specs.InForce.{AreInForce}
+use Rattle.vx_merge.specs.inner.Frames.{IsFrameOf}
 use Rattle.vx_merge.proofs.frame.frame_with.Goals as goal
 
 pub sources-requires : goal.sources-requires
@@ -15,14 +17,15 @@ pub sets_for-requires : goal.sets_for-requires
 sets_for-requires c = (c.requires.0, c.requires.1.is)
 
 pub returns : goal.returns
-returns c corners is = record {
-  is = record {
-    geometry = is.is;
-    made = is.made;
-    layout = c.in_ok-layout.ensures;
-    sps = c.in_ok-sps.ensures.sps corners is.is;
-    plain = c.in_ok-sps.ensures.pps corners is.is;
-    renamed = tt;
-  };
-  sets = c.in_ok-sources.ensures;
-}
+returns c corners is =
+    subst (IsFrameOf corners c.args.level c.args.round.now) (sym c.in_ok-new.ensures.ok) (record {
+      is = record {
+        geometry = is.is;
+        made = is.made;
+        layout = c.in_ok-layout.ensures;
+        sps = c.in_ok-sps.ensures.sps corners is.is;
+        plain = c.in_ok-sps.ensures.pps corners is.is;
+        renamed = tt;
+      };
+      sets = c.in_ok-sources.ensures;
+    })

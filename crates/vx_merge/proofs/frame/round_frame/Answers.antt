@@ -8,7 +8,7 @@ use Rattle.vx_merge.proofs.frame.round_frame.Goals as goal
 pub have_sets-requires : goal.have_sets-requires
 have_sets-requires c =
     let kept = rw c.in-Some.is at c.requires.kept in
-    ap length c.as_slice.ensures.value ∙ (sources_count c.args.corners.now kept.0 c.in-Some.frame kept.1 ∙ c.requires.same)
+    ap length (rw c.deref.ensures at c.as_slice.ensures.value) ∙ (sources_count c.args.corners.now kept.0 c.in-Some.frame.value kept.1 ∙ c.requires.same)
 
 pub returns-in_default : goal.returns-in_default
 returns-in_default c level was = c.new_frame.ensures level
@@ -20,18 +20,18 @@ pub returns-in-Some-too_many_slices : goal.returns-in-Some-too_many_slices
 returns-in-Some-too_many_slices c level was =
     let corners = c.args.corners.now in
     let round = c.args.round.now in
-    let kept : IsKeptFrame corners level c.in-Some.frame = rw c.in-Some.is at was in
-    let sets : HasSetsOf round c.in-Some.frame = ap (map sets_in) (sym c.as_slice.ensures.value) ∙ c.if-not-have_sets.ensures.same in
-    let past : HavePassed corners round = past_of corners level round c.in-Some.frame kept sets in
+    let kept : IsKeptFrame corners level c.in-Some.frame.value = rw c.in-Some.is at was in
+    let sets : HasSetsOf round c.in-Some.frame.value = ap (map sets_in) (sym (rw c.deref.ensures at c.as_slice.ensures.value)) ∙ c.if-not-have_sets.ensures.same in
+    let past : HavePassed corners round = past_of corners level round c.in-Some.frame.value kept sets in
     few_known corners round c.requires.same past (Some c.in-Some-too_many_slices.refusal) c.in-Some-too_many_slices.ensures.found
 
 pub returns : goal.returns
 returns c level was =
     let corners = c.args.corners.now in
     let round = c.args.round.now in
-    let kept : IsKeptFrame corners level c.in-Some.frame = rw c.in-Some.is at was in
-    let sets : HasSetsOf round c.in-Some.frame = ap (map sets_in) (sym c.as_slice.ensures.value) ∙ c.if-not-have_sets.ensures.same in
-    let past : HavePassed corners round = past_of corners level round c.in-Some.frame kept sets in (
+    let kept : IsKeptFrame corners level c.in-Some.frame.value = rw c.in-Some.is at was in
+    let sets : HasSetsOf round c.in-Some.frame.value = ap (map sets_in) (sym (rw c.deref.ensures at c.as_slice.ensures.value)) ∙ c.if-not-have_sets.ensures.same in
+    let past : HavePassed corners round = past_of corners level round c.in-Some.frame.value kept sets in (
       few_known corners round c.requires.same past None c.in_default-too_many_slices.ensures.found,
       kept_serves corners level round c.in-Some.frame (recursion_from_All AreInForce round c.if-not-have_sets.ensures.sets) kept sets,
     )

@@ -1,5 +1,7 @@
 use Rattle.std.proofs.Common.{◌++◌, length, None, arith}
 use Rattle.std.proofs.lemmas.Result.{err_from_is_err_and}
+use Rattle.std.specs.Global.{Box}
+use Rattle.vx_merge.specs.declared.frame.Frame.{Frame}
 use Rattle.vx_merge.specs.Rules.{rules_of_pictures, rules_of_sets, rules_of_slices}
 use Rattle.vx_merge.specs.inner.Frames.{IsFrameOf, IsRoundFrame}
 use Rattle.vx_merge.proofs.SameSets.{past_or_new, some_kept}
@@ -16,7 +18,7 @@ returns-in_err-begun c =
     let p = err_from_is_err_and c.from_residual.result c.from_residual.ensures.1 in
     rw (p.1, p.2)
     (tries_front (length round) (rules_of_sets corners round) (rules_of_pictures round ++ rules_of_slices round) (IsRoundFrame corners c.args.level round)
-    (IsFrameOf corners c.args.level round) _ (c.in_err-begun.ensures c.args.level c.requires.kept))
+    (λ (f : Box Frame). IsFrameOf corners c.args.level round f.value) _ (c.in_err-begun.ensures c.args.level c.requires.kept))
 
 pub check_pictures-requires-clause-count : goal.check_pictures-requires-clause-count
 check_pictures-requires-clause-count c =
@@ -38,7 +40,7 @@ returns-in_err-check_pictures c =
     let p = err_from_is_err_and c.from_residual-in_err-check_pictures.result c.from_residual-in_err-check_pictures.ensures.1 in
     rw (p.1, p.2)
     (tries_behind {A = Unit {0}} (length round) (rules_of_sets corners round) (rules_of_pictures round ++ rules_of_slices round) (λ x. Unit {0})
-    (IsFrameOf corners c.args.level round) _ (c.in_ok-begun.ensures c.args.level c.requires.kept).0 c.in_err-check_pictures.ensures)
+    (λ (f : Box Frame). IsFrameOf corners c.args.level round f.value) _ (c.in_ok-begun.ensures c.args.level c.requires.kept).0 c.in_err-check_pictures.ensures)
 
 pub whole_frame-requires : goal.whole_frame-requires
 whole_frame-requires c = (c.args.corners.now, (c.in_ok-begun.ensures c.args.level c.requires.kept).1)
