@@ -1,5 +1,5 @@
 //! What a merger keeps from round to round.
-use crate::frame::Frame;
+use vx_frame::Frame;
 use vx_write::Slots;
 
 /// What a merger keeps from round to round.

@@ -1,12 +1,12 @@
 use Rattle.std.proofs.Common.{length, None, refl, sym, subst, arith}
 use Rattle.std.proofs.lemmas.Result.{err_from_is_err_and}
 use Rattle.std.specs.Global.{Box}
-use Rattle.vx_merge.specs.declared.frame.Frame.{Frame}
-use Rattle.vx_merge.specs.Rules.{rules_of}
+use Rattle.vx_frame.specs.declared.frame.Frame.{Frame}
+use Rattle.vx_frame.specs.Rules.{rules_of}
+use Rattle.vx_frame.specs.inner.Frames.{IsFrameOf, IsSomeUsed, IsUsedFor}
+use Rattle.vx_frame.proofs.SameSets.{frame_used, kept_next}
+use Rattle.vx_frame.proofs.Verdicts.{tries_other}
 use Rattle.vx_merge.specs.inner.Counting.{AreUnitsOf}
-use Rattle.vx_merge.specs.inner.Frames.{IsFrameOf, IsSomeUsed, IsUsedFor}
-use Rattle.vx_merge.proofs.SameSets.{frame_used, kept_next}
-use Rattle.vx_merge.proofs.Verdicts.{tries_other}
 use Rattle.vx_merge.proofs.Writing.{judged}
 use Rattle.vx_merge.proofs.round.sound_units.Goals as goal
 
