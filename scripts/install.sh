@@ -6,7 +6,7 @@
 # With nothing kept, all of it is some 57 minutes of one processor's work. `rt run` alone took 38 minutes on four processors, since
 # it proves one crate after another, and gives the large ones at the top one job or two. scripts/prove-below.py has several crates
 # proved at once, each with more jobs: along the longest way (vx_bits, vx_table, vx_rpl, vx_sps, vx_ph, vx_sh, vx_pic, vx_write,
-# vx_merge, vx_run, some 40 minutes of work) four jobs should halve the time, and the other crates fill what these leave idle. So 20 to
+# vx_frame, vx_merge, vx_run, some 40 minutes of work) four jobs should halve the time, and the other crates fill what these leave idle. So 20 to
 # 25 minutes are expected; that isn't measured.
 set -euo pipefail
 [ $# = 1 ] || { echo "usage: scripts/install.sh DIR" >&2; exit 2; }

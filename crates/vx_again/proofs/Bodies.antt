@@ -13,7 +13,7 @@ use Rattle.vx_pic.specs.Written.{Set, an_aps}
 use Rattle.vx_write.specs.Again.{HasReadableSets, IsReadable}
 use Rattle.vx_write.proofs.OwnSets.{IsAmong, among_first, among_second}
 use Rattle.vx_write.proofs.Vacant.{itself_bytes}
-use Rattle.vx_merge.specs.Bodies.{is_among, once, with_bodies}
+use Rattle.vx_frame.specs.Bodies.{is_among, once, with_bodies}
 use Rattle.vx_merge.specs.Needed.{by_ids, id_of_body, sets_with_id}
 use Rattle.vx_merge.specs.inner.Sending.{CanEnd, HasEnds}
 use Rattle.vx_merge.proofs.Owning.{bytes_are}

@@ -16,14 +16,14 @@ use Rattle.vx_sps.specs.Subpictures.{rect_of}
 use Rattle.vx_pps.specs.laws.Sets.{ReadSlicesAreListable, SetsTellPartitions}
 use Rattle.vx_pic.specs.Parts.{Parts}
 use Rattle.vx_pic.specs.Written.{Plan}
-use Rattle.vx_merge.specs.declared.corner.Corner.{Corner}
+use Rattle.vx_frame.specs.declared.corner.Corner.{Corner}
+use Rattle.vx_frame.specs.Regions.{corners_in, ctb_of, placed_at, placed_in}
+use Rattle.vx_frame.specs.Rounds.{picture_at}
+use Rattle.vx_frame.specs.Shapes.{frame_sps_shape}
+use Rattle.vx_frame.proofs.FrameShaping.{placed_count, positive_ctb}
+use Rattle.vx_frame.proofs.Sized.{in_range}
 use Rattle.vx_merge.specs.Merging.{Judges}
-use Rattle.vx_merge.specs.Regions.{corners_in, ctb_of, placed_at, placed_in}
-use Rattle.vx_merge.specs.Rounds.{picture_at}
-use Rattle.vx_merge.specs.Shapes.{frame_sps_shape}
 use Rattle.vx_merge.specs.Written.{IsMerged}
-use Rattle.vx_merge.proofs.FrameShaping.{placed_count, positive_ctb}
-use Rattle.vx_merge.proofs.Sized.{in_range}
 use Rattle.vx_again.specs.Frames.{IsReadyRound}
 use Rattle.vx_again.specs.Regions.{StandsAt}
 use Rattle.vx_again.proofs.Facts.{fit, sets_of, source_at}

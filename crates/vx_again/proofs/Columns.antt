@@ -8,8 +8,8 @@ use Rattle.vx_pic.specs.Finished.{IsSoundPicture}
 use Rattle.vx_pic.specs.Parts.{Parts, parts_of}
 use Rattle.vx_pic.specs.Readings.{Picture}
 use Rattle.vx_pic.specs.Rules.{Readers}
-use Rattle.vx_merge.specs.declared.corner.Corner.{Corner}
-use Rattle.vx_merge.specs.Merging.{AreCorners}
+use Rattle.vx_frame.specs.declared.corner.Corner.{Corner}
+use Rattle.vx_frame.specs.Corners.{AreCorners}
 use Rattle.vx_again.specs.Frames.{IsReadyRound}
 use Rattle.vx_again.specs.Sources.{CanBeMerged, IsSource}
 use Rattle.vx_again.specs.Streams.{earlier, lasts}

@@ -17,12 +17,12 @@ use Rattle.vx_pic.specs.Parts.{Parts, parts_of}
 use Rattle.vx_pic.specs.Readings.{Begun, Picture}
 use Rattle.vx_pic.specs.Sets.{is_non_ref, lsb_of, max_lsb, msb_cycle}
 use Rattle.vx_pic.specs.Written.{Plan}
-use Rattle.vx_merge.specs.declared.corner.Corner.{Corner}
+use Rattle.vx_frame.specs.declared.corner.Corner.{Corner}
+use Rattle.vx_frame.specs.Rounds.{picture_at}
+use Rattle.vx_frame.specs.Shapes.{frame_sps_shape}
+use Rattle.vx_frame.proofs.Passing.{header_alike, sps_alike}
 use Rattle.vx_merge.specs.Merging.{Judges}
-use Rattle.vx_merge.specs.Rounds.{picture_at}
-use Rattle.vx_merge.specs.Shapes.{frame_sps_shape}
 use Rattle.vx_merge.specs.Written.{IsMerged}
-use Rattle.vx_merge.proofs.Passing.{header_alike, sps_alike}
 use Rattle.vx_again.specs.Frames.{IsReadyRound}
 use Rattle.vx_again.specs.Rounds.{MergedIsAlike}
 

@@ -28,9 +28,9 @@ use Rattle.vx_extract.specs.Rules.{refusal_of, rule_of_dropped, rule_of_kept}
 use Rattle.vx_extract.specs.Whole.{AreKeptWith, AreOfSubpicture, ExtractionReadsAgain}
 use Rattle.vx_extract.specs.Written.{IsExtraction}
 use Rattle.vx_extract.proofs.ReadyPictures.{each_kept}
-use Rattle.vx_merge.specs.declared.corner.Corner.{Corner}
+use Rattle.vx_frame.specs.declared.corner.Corner.{Corner}
+use Rattle.vx_frame.proofs.Passing.{none_broken}
 use Rattle.vx_merge.specs.Written.{limits_of}
-use Rattle.vx_merge.proofs.Passing.{none_broken}
 use Rattle.vx_again.specs.Regions.{AreOfMerge, AreOfSource, HasRegions, PlannedAreOfMerge}
 use Rattle.vx_again.specs.Streams.{AreMerged, MergedKeepsMessages, MergedReadsAgain}
 use Rattle.vx_again.specs.Whole.{IsExtractedAsSource, MergeIsReadAgain, MergedUnitsCanStand}

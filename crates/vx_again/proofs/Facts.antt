@@ -22,20 +22,20 @@ use Rattle.vx_pic.specs.Written.{Plan, a_pps}
 use Rattle.vx_write.specs.InForce.{AreInForce}
 use Rattle.vx_write.specs.Slots.{pps_with_id}
 use Rattle.vx_write.proofs.Spelled.{pps_items, sps_items}
-use Rattle.vx_merge.specs.declared.corner.Corner.{Corner}
+use Rattle.vx_frame.specs.declared.corner.Corner.{Corner}
+use Rattle.vx_frame.specs.Regions.{ctb_of, placed_in}
+use Rattle.vx_frame.specs.Rounds.{picture_at}
+use Rattle.vx_frame.specs.Shapes.{IsFrame, frame_pps_shape, frame_sps_shape}
+use Rattle.vx_frame.specs.Counts.{pps_slots}
+use Rattle.vx_frame.specs.inner.Geometry.{CanBeJoined, HasShapes, MakeFrame}
+use Rattle.vx_frame.specs.inner.Known.{IsKnown}
+use Rattle.vx_frame.proofs.FrameShaping.{has_shapes}
+use Rattle.vx_frame.proofs.Passing.{pps_alike, sps_alike}
+use Rattle.vx_frame.proofs.Sources.{can_be_joined}
 use Rattle.vx_merge.specs.Merging.{Judges}
-use Rattle.vx_merge.specs.Regions.{ctb_of, placed_in}
-use Rattle.vx_merge.specs.Rounds.{picture_at}
-use Rattle.vx_merge.specs.Shapes.{IsFrame, frame_pps_shape, frame_sps_shape}
-use Rattle.vx_merge.specs.Slots.{pps_slots}
 use Rattle.vx_merge.specs.Written.{IsMerged}
-use Rattle.vx_merge.specs.inner.Geometry.{CanBeJoined, HasShapes, MakeFrame}
-use Rattle.vx_merge.specs.inner.Known.{IsKnown}
 use Rattle.vx_merge.proofs.Apart.{frame_apart}
-use Rattle.vx_merge.proofs.FrameShaping.{has_shapes}
-use Rattle.vx_merge.proofs.Passing.{pps_alike, sps_alike}
 use Rattle.vx_merge.proofs.SliceFilters.{slots_low}
-use Rattle.vx_merge.proofs.Sources.{can_be_joined}
 use Rattle.vx_again.specs.Frames.{AreFrameSets, IsReadyRound}
 use Rattle.vx_again.specs.Sources.{IsSource}
 

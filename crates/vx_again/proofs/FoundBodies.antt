@@ -14,11 +14,12 @@ use Rattle.vx_write.specs.Again.{SendsItsSets}
 use Rattle.vx_write.proofs.OwnSets.{IsAmong, among_first, among_second, has_set}
 use Rattle.vx_write.proofs.Vacant.{itself_bytes}
 use Rattle.vx_extract.proofs.KeptBodies.{at_place}
-use Rattle.vx_merge.specs.declared.corner.Corner.{Corner}
-use Rattle.vx_merge.specs.Bodies.{filters_in, has_lmcs, has_scaling, is_among, lmcs_body, scaling_body}
-use Rattle.vx_merge.specs.Needed.{alf_bodies, aps_of_body, by_ids, id_of_body, lmcs_bodies, scaling_bodies}
-use Rattle.vx_merge.specs.Shapes.{of_lowest}
-use Rattle.vx_merge.specs.Slots.{TakeSlots, alf_slots, lmcs_slots, scaling_slots}
+use Rattle.vx_frame.specs.declared.corner.Corner.{Corner}
+use Rattle.vx_frame.specs.Bodies.{filters_in, has_lmcs, has_scaling, is_among, lmcs_body, scaling_body, alf_bodies}
+use Rattle.vx_frame.specs.Shapes.{of_lowest}
+use Rattle.vx_frame.specs.Counts.{alf_slots, lmcs_slots, scaling_slots}
+use Rattle.vx_merge.specs.Needed.{aps_of_body, by_ids, id_of_body, lmcs_bodies, scaling_bodies}
+use Rattle.vx_merge.specs.Slots.{TakeSlots}
 use Rattle.vx_merge.specs.Written.{IsMerged}
 use Rattle.vx_merge.proofs.SliceFilters.{id_low, slots_low}
 use Rattle.vx_again.proofs.Bodies.{HasBody, by_its_id, once_has, set_at}

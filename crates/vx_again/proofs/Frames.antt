@@ -31,12 +31,12 @@ use Rattle.vx_pps.proofs.Telling.{reshaped_tells}
 use Rattle.vx_pic.specs.Parts.{Parts}
 use Rattle.vx_pic.specs.PictureLayout.{AreDistinct, IdsAgree, ctu_sizes_differ, ids_misplaced, ids_of, ids_too_short, ids_unlike, needs_ids, numbers_in, same_flag, subpictures_of}
 use Rattle.vx_pic.specs.Sets.{pps_id, referred_sps, same_size, sps_id}
-use Rattle.vx_merge.specs.declared.corner.Corner.{Corner}
+use Rattle.vx_frame.specs.declared.corner.Corner.{Corner}
+use Rattle.vx_frame.specs.Regions.{corners_in}
+use Rattle.vx_frame.specs.Rounds.{picture_at}
+use Rattle.vx_frame.specs.Shapes.{IsFrame, frame_pps_shape, frame_sps_shape}
+use Rattle.vx_frame.proofs.Joining.{corners_count}
 use Rattle.vx_merge.specs.Merging.{Judges}
-use Rattle.vx_merge.specs.Regions.{corners_in}
-use Rattle.vx_merge.specs.Rounds.{picture_at}
-use Rattle.vx_merge.specs.Shapes.{IsFrame, frame_pps_shape, frame_sps_shape}
-use Rattle.vx_merge.proofs.Joining.{corners_count}
 use Rattle.vx_merge.proofs.SliceIds.{HaveIndices, have_indices, ids_are, own_id, signals}
 use Rattle.vx_again.specs.Frames.{AreFrameSets, IsReadyRound, MakeTheFrame, SetsMakeTheFrame}
 use Rattle.vx_again.proofs.Facts.{can, shapes, source_at, some_round}

@@ -28,13 +28,13 @@ use Rattle.vx_pic.specs.Written as written
 use Rattle.vx_pic.specs.Written.{Plan, Set}
 use Rattle.vx_write.specs.Again.{HasItsBodies, IsReadable}
 use Rattle.vx_write.proofs.OwnSets.{IsAmong, among_first, among_second, has_set, units_hold}
-use Rattle.vx_merge.specs.declared.corner.Corner.{Corner}
-use Rattle.vx_merge.specs.Bodies.{filters_in, filters_of, has_lmcs, has_scaling}
+use Rattle.vx_frame.specs.declared.corner.Corner.{Corner}
+use Rattle.vx_frame.specs.Bodies.{filters_in, filters_of, has_lmcs, has_scaling, alf_bodies}
+use Rattle.vx_frame.specs.Rounds.{picture_at}
+use Rattle.vx_frame.specs.Counts.{alf_slots, lmcs_slots, scaling_slots}
 use Rattle.vx_merge.specs.Headers.{IsMergedSlice, id_for, lmcs_shape, ph_shape, sourced}
 use Rattle.vx_merge.specs.Merging.{Judges}
-use Rattle.vx_merge.specs.Needed.{alf_bodies, aps_of_body, by_ids, id_of_body, lmcs_bodies, sets_of_round, scaling_bodies, sets_with_id}
-use Rattle.vx_merge.specs.Rounds.{picture_at}
-use Rattle.vx_merge.specs.Slots.{alf_slots, lmcs_slots, scaling_slots}
+use Rattle.vx_merge.specs.Needed.{aps_of_body, by_ids, id_of_body, lmcs_bodies, sets_of_round, scaling_bodies, sets_with_id}
 use Rattle.vx_merge.specs.Written.{IsMerged}
 use Rattle.vx_merge.specs.inner.Sending.{HasEnds}
 use Rattle.vx_merge.proofs.BodyEnds.{ends_alf_bodies, ends_lowest}

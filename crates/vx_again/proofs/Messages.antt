@@ -9,7 +9,7 @@ use Rattle.vx_pic.specs.Readings.{Picture, messages_of}
 use Rattle.vx_pic.specs.Resident.{planned_of, readings_of_plans}
 use Rattle.vx_pic.specs.Written.{Plan, planned}
 use Rattle.vx_write.proofs.Messages.{planned_messages, unit_has}
-use Rattle.vx_merge.specs.declared.corner.Corner.{Corner}
+use Rattle.vx_frame.specs.declared.corner.Corner.{Corner}
 use Rattle.vx_merge.specs.Merging.{Passes}
 use Rattle.vx_again.specs.Streams.{MergedKeepsMessages}
 use Rattle.vx_again.proofs.Columns.{IsLast, all_last}

@@ -31,7 +31,7 @@ use Rattle.vx_pic.specs.Parts.{AreThere, Parts, aps_at}
 use Rattle.vx_pic.specs.Resident.{HasSet, HaveNamed}
 use Rattle.vx_pic.specs.Sets.{Slot, named, named_filters}
 use Rattle.vx_pic.specs.Written.{SetUnit, an_aps}
-use Rattle.vx_merge.specs.Bodies.{bodies_in}
+use Rattle.vx_frame.specs.Bodies.{bodies_in}
 use Rattle.vx_again.proofs.Bodies.{HasBody, body_first, body_second, set_at}
 
 -- ---- slots of a field's items

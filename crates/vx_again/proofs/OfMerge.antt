@@ -10,10 +10,11 @@ use Rattle.vx_pic.specs.Readings.{Picture}
 use Rattle.vx_pic.specs.Resident.{planned_of, readings_of_plans}
 use Rattle.vx_pic.specs.Rules.{Readers}
 use Rattle.vx_pic.specs.Written.{Plan, planned}
-use Rattle.vx_merge.specs.declared.corner.Corner.{Corner}
-use Rattle.vx_merge.specs.Merging.{AreCorners, Judges, Passes}
+use Rattle.vx_frame.specs.declared.corner.Corner.{Corner}
+use Rattle.vx_frame.specs.Corners.{AreCorners}
+use Rattle.vx_frame.proofs.Gathered.{all_at}
+use Rattle.vx_merge.specs.Merging.{Judges, Passes}
 use Rattle.vx_merge.specs.Written.{IsMerged}
-use Rattle.vx_merge.proofs.Gathered.{all_at}
 use Rattle.vx_again.specs.Frames.{IsReadyRound, SetsMakeTheFrame}
 use Rattle.vx_again.specs.Regions.{HasRegions, PlannedAreOfMerge, StandsAt}
 use Rattle.vx_again.specs.Rounds.{MergedKeepsInputs, MergedSendsItsSets}

@@ -18,10 +18,10 @@ use Rattle.vx_sps.specs.Structure.{sps_form}
 use Rattle.vx_pic.specs.Parts.{Parts}
 use Rattle.vx_pic.specs.Sets.{same_size}
 use Rattle.vx_pic.proofs.PictureSizes.{both_sizes}
-use Rattle.vx_merge.specs.declared.corner.Corner.{Corner}
-use Rattle.vx_merge.specs.Regions.{ctb_of, placed_at, placed_in}
-use Rattle.vx_merge.specs.Rounds.{picture_at}
-use Rattle.vx_merge.specs.Shapes.{frame_dpb, frame_level, numbers_in_round, offsets_at, frame_sps_shape, frame_window}
+use Rattle.vx_frame.specs.declared.corner.Corner.{Corner}
+use Rattle.vx_frame.specs.Regions.{ctb_of, placed_at, placed_in}
+use Rattle.vx_frame.specs.Rounds.{picture_at}
+use Rattle.vx_frame.specs.Shapes.{frame_dpb, frame_level, numbers_in_round, offsets_at, frame_sps_shape, frame_window}
 
 -- pictures with one SPS, whose sets have one size
 pub record HasSameSps (e q : Parts) : Type 0 where

@@ -28,14 +28,14 @@ use Rattle.vx_pic.specs.Sets.{address_of, slices_before}
 use Rattle.vx_pic.specs.Written as written
 use Rattle.vx_pic.specs.Written.{AreInOrder, Plan}
 use Rattle.vx_write.proofs.Sizes.{subpics_count}
-use Rattle.vx_merge.specs.declared.corner.Corner.{Corner}
+use Rattle.vx_frame.specs.declared.corner.Corner.{Corner}
+use Rattle.vx_frame.specs.Regions.{corners_in, layout_of, layouts_in}
+use Rattle.vx_frame.specs.Rounds.{picture_at}
+use Rattle.vx_frame.proofs.FrameShaping.{slices_count}
+use Rattle.vx_frame.proofs.Passing.{none_broken, one_subpic}
 use Rattle.vx_merge.specs.Headers.{IsMergedSlice, sourced}
 use Rattle.vx_merge.specs.Merging.{Judges, Passes}
-use Rattle.vx_merge.specs.Regions.{corners_in, layout_of, layouts_in}
-use Rattle.vx_merge.specs.Rounds.{picture_at}
 use Rattle.vx_merge.specs.Written.{IsMerged, limits_of}
-use Rattle.vx_merge.proofs.FrameShaping.{slices_count}
-use Rattle.vx_merge.proofs.Passing.{none_broken, one_subpic}
 use Rattle.vx_merge.proofs.SliceRegions.{frame_count, region_is}
 use Rattle.vx_again.specs.Frames.{IsReadyRound, MakeTheFrame}
 use Rattle.vx_again.specs.Rounds.{MergedIsWhole}

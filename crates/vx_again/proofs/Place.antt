@@ -37,18 +37,18 @@ use Rattle.vx_write.specs.InForce.{AreInForce}
 use Rattle.vx_write.proofs.Sizes.{has_size, part_of, subpic_is}
 use Rattle.vx_extract.specs.Shapes.{height_in, width_in}
 use Rattle.vx_extract.proofs.AgainSlices.{cut_length}
-use Rattle.vx_merge.specs.declared.corner.Corner.{Corner}
+use Rattle.vx_frame.specs.declared.corner.Corner.{Corner}
+use Rattle.vx_frame.specs.Regions.{ctb_of, layout_of}
+use Rattle.vx_frame.specs.Rounds.{no_picture, picture_at}
+use Rattle.vx_frame.specs.Rules.{crosses_slices, crosses_tiles, has_slices, has_tiles}
+use Rattle.vx_frame.specs.Shapes.{frame_pps_shape}
+use Rattle.vx_frame.specs.inner.Geometry.{HasShapes, MakeFrame}
+use Rattle.vx_frame.proofs.FrameShaping.{positive_ctb}
+use Rattle.vx_frame.proofs.Passing.{one_subpic, slices_as_lowest, tiles_as_lowest}
+use Rattle.vx_frame.proofs.Sized.{is_sized}
 use Rattle.vx_merge.specs.Headers.{IsMergedSlice}
 use Rattle.vx_merge.specs.Merging.{Judges}
-use Rattle.vx_merge.specs.Regions.{ctb_of, layout_of}
-use Rattle.vx_merge.specs.Rounds.{no_picture, picture_at}
-use Rattle.vx_merge.specs.Rules.{crosses_slices, crosses_tiles, has_slices, has_tiles}
-use Rattle.vx_merge.specs.Shapes.{frame_pps_shape}
 use Rattle.vx_merge.specs.Written.{IsMerged}
-use Rattle.vx_merge.specs.inner.Geometry.{HasShapes, MakeFrame}
-use Rattle.vx_merge.proofs.FrameShaping.{positive_ctb}
-use Rattle.vx_merge.proofs.Passing.{one_subpic, slices_as_lowest, tiles_as_lowest}
-use Rattle.vx_merge.proofs.Sized.{is_sized}
 use Rattle.vx_merge.proofs.SliceRegions.{frame_count, region_is}
 use Rattle.vx_again.specs.Frames.{AreFrameSets, IsReadyRound, MakeTheFrame}
 use Rattle.vx_again.specs.Sources.{IsSource, IsSourceSlice}

@@ -21,12 +21,13 @@ use Rattle.vx_pic.proofs.Sent.{items_are}
 use Rattle.vx_write.specs.Again.{HasItsBodies, IsReadable, IsWholePlan, SeiUnitsAreRead, SendsItsSets, SetUnitsAreRead, UnitsAreRead}
 use Rattle.vx_write.specs.Units.{IsSetUnit}
 use Rattle.vx_write.proofs.OwnSets.{each_passing}
-use Rattle.vx_merge.specs.declared.corner.Corner.{Corner}
-use Rattle.vx_merge.specs.Merging.{AreCorners, Passes}
-use Rattle.vx_merge.specs.Rounds.{picture_at}
-use Rattle.vx_merge.specs.Rules.{shared_kind}
+use Rattle.vx_frame.specs.declared.corner.Corner.{Corner}
+use Rattle.vx_frame.specs.Corners.{AreCorners}
+use Rattle.vx_frame.specs.Rounds.{picture_at}
+use Rattle.vx_frame.specs.Rules.{shared_kind}
+use Rattle.vx_frame.proofs.Passing.{kind_alike}
+use Rattle.vx_merge.specs.Merging.{Passes}
 use Rattle.vx_merge.specs.Written.{IsMerged}
-use Rattle.vx_merge.proofs.Passing.{kind_alike}
 use Rattle.vx_again.specs.Frames.{IsReadyRound}
 use Rattle.vx_again.specs.Rounds.{MergedHasItsBodies, MergedIsAlike, MergedIsWhole, MergedSendsItsSets, MergedUnitsAreRead}
 use Rattle.vx_again.specs.Sources.{CanBeMerged, IsSource}

@@ -18,10 +18,10 @@ use Rattle.vx_pic.specs.Units.{class_of, has_header_inside, slice_unit}
 use Rattle.vx_pic.specs.Written as written
 use Rattle.vx_pic.specs.Written.{HeadReads, Plan, SliceReads}
 use Rattle.vx_write.specs.Again.{UnitsAreRead}
-use Rattle.vx_merge.specs.declared.corner.Corner.{Corner}
+use Rattle.vx_frame.specs.declared.corner.Corner.{Corner}
+use Rattle.vx_frame.specs.Rounds.{picture_at}
 use Rattle.vx_merge.specs.Headers.{IsMergedSlice, sourced}
 use Rattle.vx_merge.specs.Merging.{Passes}
-use Rattle.vx_merge.specs.Rounds.{picture_at}
 use Rattle.vx_again.specs.Frames.{AreFrameSets, IsReadyRound, MakeTheFrame}
 use Rattle.vx_again.specs.Rounds.{MergedUnitsAreRead}
 use Rattle.vx_again.specs.Sources.{IsSource, IsSourceSlice}

@@ -18,7 +18,7 @@ use Rattle.vx_sh.specs.Depends.{kept_fields}
 use Rattle.vx_pic.specs.Inputs.{alf_of, bodies_of, body_of, named_body}
 use Rattle.vx_pic.specs.Parts.{AreThere, Parts, aps_at}
 use Rattle.vx_pic.specs.Sets.{Slot, named, named_filters}
-use Rattle.vx_merge.specs.Bodies.{bodies_in}
+use Rattle.vx_frame.specs.Bodies.{bodies_in}
 use Rattle.vx_again.proofs.Bodies.{HasBody, body_first, body_second}
 use Rattle.vx_again.proofs.Named.{there_front}
 

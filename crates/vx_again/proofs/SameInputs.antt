@@ -39,15 +39,15 @@ use Rattle.vx_pic.specs.Sets.{address_of, filter_items, named_filters, names_of,
 use Rattle.vx_pic.specs.Units.{class_of}
 use Rattle.vx_pic.specs.Written.{Plan, planned}
 use Rattle.vx_write.specs.Again.{SendsItsSets}
-use Rattle.vx_merge.specs.declared.corner.Corner.{Corner}
-use Rattle.vx_merge.specs.Bodies.{filters_in, filters_of, has_lmcs, has_scaling, is_chroma_scaled, lmcs_body, scaling_body}
+use Rattle.vx_frame.specs.declared.corner.Corner.{Corner}
+use Rattle.vx_frame.specs.Bodies.{filters_in, filters_of, has_lmcs, has_scaling, is_chroma_scaled, lmcs_body, scaling_body, alf_bodies}
+use Rattle.vx_frame.specs.Rounds.{picture_at}
+use Rattle.vx_frame.specs.Shapes.{of_lowest}
+use Rattle.vx_frame.proofs.Passing.{chroma_as_lowest, header_alike, lmcs_as_lowest, scaling_lists_as_lowest}
 use Rattle.vx_merge.specs.Headers.{IsMergedSlice, id_for, lmcs_shape, ph_shape}
 use Rattle.vx_merge.specs.Merging.{Judges}
-use Rattle.vx_merge.specs.Needed.{alf_bodies, id_of_body}
-use Rattle.vx_merge.specs.Rounds.{picture_at}
-use Rattle.vx_merge.specs.Shapes.{of_lowest}
+use Rattle.vx_merge.specs.Needed.{id_of_body}
 use Rattle.vx_merge.specs.Written.{IsMerged}
-use Rattle.vx_merge.proofs.Passing.{chroma_as_lowest, header_alike, lmcs_as_lowest, scaling_lists_as_lowest}
 use Rattle.vx_again.specs.Frames.{AreFrameSets, IsReadyRound}
 use Rattle.vx_again.specs.Sources.{IsSource, IsSourceSlice}
 use Rattle.vx_again.proofs.Bodies.{HasBody}

@@ -19,13 +19,13 @@ use Rattle.vx_pic.specs.Written as written
 use Rattle.vx_pic.specs.Written.{Plan, planned}
 use Rattle.vx_pic.proofs.ByAddress.{inputs_are_shown}
 use Rattle.vx_write.specs.Again.{SendsItsSets}
-use Rattle.vx_merge.specs.declared.corner.Corner.{Corner}
-use Rattle.vx_merge.specs.Bodies.{filters_in, filters_of}
+use Rattle.vx_frame.specs.declared.corner.Corner.{Corner}
+use Rattle.vx_frame.specs.Bodies.{filters_in, filters_of}
+use Rattle.vx_frame.specs.Rounds.{picture_at}
+use Rattle.vx_frame.proofs.Passing.{one_subpic}
 use Rattle.vx_merge.specs.Headers.{IsMergedSlice, sourced}
 use Rattle.vx_merge.specs.Merging.{Judges}
-use Rattle.vx_merge.specs.Rounds.{picture_at}
 use Rattle.vx_merge.specs.Written.{IsMerged}
-use Rattle.vx_merge.proofs.Passing.{one_subpic}
 use Rattle.vx_again.specs.Frames.{IsReadyRound, MakeTheFrame}
 use Rattle.vx_again.specs.Rounds.{MergedKeepsInputs}
 use Rattle.vx_again.specs.Sources.{IsSourceSlice}

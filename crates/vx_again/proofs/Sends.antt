@@ -10,11 +10,11 @@ use Rattle.vx_pic.specs.Parts.{Parts}
 use Rattle.vx_pic.specs.Resident.{same_slot, sent_before}
 use Rattle.vx_pic.specs.Written.{Plan, Set, a_pps, an_aps, an_sps}
 use Rattle.vx_write.proofs.OwnSets.{HaveOwn, IsAmong, Others, has_set, own_units}
-use Rattle.vx_merge.specs.declared.corner.Corner.{Corner}
-use Rattle.vx_merge.specs.Bodies.{filters_in, has_lmcs, has_scaling, lmcs_body, scaling_body}
-use Rattle.vx_merge.specs.Needed.{alf_bodies, by_ids, lmcs_bodies, sets_of_round, scaling_bodies, sets_with_id}
-use Rattle.vx_merge.specs.Shapes.{of_lowest}
-use Rattle.vx_merge.specs.Slots.{alf_slots, lmcs_slots, scaling_slots}
+use Rattle.vx_frame.specs.declared.corner.Corner.{Corner}
+use Rattle.vx_frame.specs.Bodies.{filters_in, has_lmcs, has_scaling, lmcs_body, scaling_body, alf_bodies}
+use Rattle.vx_frame.specs.Shapes.{of_lowest}
+use Rattle.vx_frame.specs.Counts.{alf_slots, lmcs_slots, scaling_slots}
+use Rattle.vx_merge.specs.Needed.{by_ids, lmcs_bodies, sets_of_round, scaling_bodies, sets_with_id}
 use Rattle.vx_merge.specs.Written.{IsMerged}
 use Rattle.vx_merge.specs.inner.Sending.{AreApart}
 use Rattle.vx_merge.proofs.Owning.{once_apart, own_ids, single_apart}

@@ -40,9 +40,9 @@ use Rattle.vx_pic.specs.Sets.{is_qp, signed, slice_qp}
 use Rattle.vx_pic.specs.UnderSets.{picture_header_of, at_slice_of}
 use Rattle.vx_pic.specs.Units.{class_of, has_header_inside, rbsp_of, slice_unit}
 use Rattle.vx_pic.specs.Written.{SliceReads}
+use Rattle.vx_frame.specs.Rounds.{picture_at}
 use Rattle.vx_merge.specs.Headers.{AreNumbers, IsMergedSlice, id_for}
 use Rattle.vx_merge.specs.Needed.{Ids}
-use Rattle.vx_merge.specs.Rounds.{picture_at}
 use Rattle.vx_extract.proofs.AgainUnits.{same_signed}
 use Rattle.vx_again.specs.Sources.{IsSourceSlice}
 use Rattle.vx_again.proofs.Units.{IsSliceUnit, slice_unit_is}

@@ -22,12 +22,13 @@ use Rattle.vx_write.specs.Units.{IsSeiUnit, IsSetUnit, IsUnitOf, header_bytes}
 use Rattle.vx_write.proofs.Ending.{header_ends}
 use Rattle.vx_write.proofs.OwnSets.{each_passing}
 use Rattle.vx_write.proofs.Standing.{ended_stand, unit_stands}
-use Rattle.vx_merge.specs.declared.corner.Corner.{Corner}
+use Rattle.vx_frame.specs.declared.corner.Corner.{Corner}
+use Rattle.vx_frame.specs.Corners.{AreCorners}
+use Rattle.vx_frame.specs.Rounds.{picture_at}
+use Rattle.vx_frame.proofs.Passing.{none_broken}
 use Rattle.vx_merge.specs.Headers.{IsMergedSlice, sourced}
-use Rattle.vx_merge.specs.Merging.{AreCorners, Passes}
-use Rattle.vx_merge.specs.Rounds.{picture_at}
+use Rattle.vx_merge.specs.Merging.{Passes}
 use Rattle.vx_merge.specs.Written.{IsMerged, limits_of}
-use Rattle.vx_merge.proofs.Passing.{none_broken}
 use Rattle.vx_again.specs.Frames.{IsReadyRound}
 use Rattle.vx_again.specs.Sources.{CanBeMerged, IsSource}
 use Rattle.vx_again.specs.Streams.{AreMerged, earlier}

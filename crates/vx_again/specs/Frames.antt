@@ -10,11 +10,12 @@ use Rattle.vx_sh.specs.Whole.{index_of}
 use Rattle.vx_pic.specs.Parts.{Parts}
 use Rattle.vx_pic.specs.PictureLayout.{MakeLayout, ids_of, numbers_in}
 use Rattle.vx_pic.specs.Sets.{pps_id, referred_sps, same_size, sps_id}
-use Rattle.vx_merge.specs.declared.corner.Corner.{Corner}
-use Rattle.vx_merge.specs.Merging.{AreCorners, Judges}
-use Rattle.vx_merge.specs.Rounds.{picture_at}
-use Rattle.vx_merge.specs.Shapes.{IsFrame, frame_pps_shape, frame_sps_shape}
-use Rattle.vx_merge.specs.Slots.{pps_slots}
+use Rattle.vx_frame.specs.declared.corner.Corner.{Corner}
+use Rattle.vx_frame.specs.Corners.{AreCorners}
+use Rattle.vx_frame.specs.Rounds.{picture_at}
+use Rattle.vx_frame.specs.Shapes.{IsFrame, frame_pps_shape, frame_sps_shape}
+use Rattle.vx_frame.specs.Counts.{pps_slots}
+use Rattle.vx_merge.specs.Merging.{Judges}
 use Rattle.vx_again.specs.Sources.{IsSource}
 
 -- The pictures of a round that stand in regions with these corners.

@@ -10,7 +10,7 @@ use Rattle.vx_pic.specs.Resident.{IsBodyOf, readings_of_plans}
 use Rattle.vx_pic.specs.Rules.{Readers}
 use Rattle.vx_pic.specs.Written.{IsStored, Plan, before_header, planned}
 use Rattle.vx_write.specs.Again.{HasItsBodies, IsWholePlan, SendsItsSets, UnitsAreRead}
-use Rattle.vx_merge.specs.declared.corner.Corner.{Corner}
+use Rattle.vx_frame.specs.declared.corner.Corner.{Corner}
 use Rattle.vx_merge.specs.Merging.{Judges, Passes}
 use Rattle.vx_merge.specs.Written.{IsMerged}
 use Rattle.vx_again.specs.Frames.{IsReadyRound}

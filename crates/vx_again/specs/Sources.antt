@@ -25,7 +25,7 @@ use Rattle.vx_sh.specs.InForce.{at_sets}
 use Rattle.vx_pic.specs.Units.{class_of, slice_unit}
 use Rattle.vx_write.specs.Again.{HasReadableSets}
 use Rattle.vx_write.specs.InForce.{AreInForce}
-use Rattle.vx_merge.specs.Bodies.{has_lmcs, has_scaling, is_chroma_scaled}
+use Rattle.vx_frame.specs.Bodies.{has_lmcs, has_scaling, is_chroma_scaled}
 
 -- ---- a picture
 

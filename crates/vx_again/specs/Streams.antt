@@ -8,8 +8,9 @@ use Rattle.vx_pic.specs.Readings.{Picture, messages_of}
 use Rattle.vx_pic.specs.Resident.{AllReadAgain, AreAllPlanned, planned_of}
 use Rattle.vx_pic.specs.Rules.{Readers}
 use Rattle.vx_pic.specs.Written.{Plan}
-use Rattle.vx_merge.specs.declared.corner.Corner.{Corner}
-use Rattle.vx_merge.specs.Merging.{AreCorners, Passes}
+use Rattle.vx_frame.specs.declared.corner.Corner.{Corner}
+use Rattle.vx_frame.specs.Corners.{AreCorners}
+use Rattle.vx_merge.specs.Merging.{Passes}
 use Rattle.vx_again.specs.Sources.{CanBeMerged}
 
 -- ---- rounds

@@ -15,7 +15,7 @@ use Rattle.vx_pic.specs.Sublayers.{KeepsStarts, at_most}
 use Rattle.vx_pic.specs.Written.{Plan}
 use Rattle.vx_extract.specs.Rules.{refusal_of}
 use Rattle.vx_extract.specs.Written.{IsExtraction}
-use Rattle.vx_merge.specs.declared.corner.Corner.{Corner}
+use Rattle.vx_frame.specs.declared.corner.Corner.{Corner}
 use Rattle.vx_again.specs.Regions.{AreOfMerge}
 use Rattle.vx_again.specs.Streams.{AreWrittenSo}
 

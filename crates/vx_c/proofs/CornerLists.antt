@@ -1,7 +1,7 @@
 -- Corners, one after another.
 use Rattle.std.proofs.Common.{◌≡◌, ℕ, ◌+◌, ◌<◌, ◌≤◌, List, [], ◌∷◌, ◌++◌, length, map, take, get_or, refl, subst}
 use Rattle.std.proofs.lemmas.List.{take_more, take_all, map-append}
-use Rattle.vx_merge.specs.declared.corner.Corner.{Corner}
+use Rattle.vx_frame.specs.declared.corner.Corner.{Corner}
 use Rattle.vx_c.specs.declared.corners.GqCorner.{GqCorner}
 use Rattle.vx_c.specs.Merger.{corner_of}
 

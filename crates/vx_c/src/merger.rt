@@ -1,6 +1,6 @@
 //! A merger, to which bytes are handed in as they come.
 ghost use Rattle.std.specs.Prelude.{◌≡◌, Some, None, map, IfOk, IfErr, IfSome, IfNone};
-ghost use Rattle.vx_merge.specs.Merging.{AreCorners};
+ghost use Rattle.vx_frame.specs.Corners.{AreCorners};
 ghost use Rattle.vx_push.specs.Comes.{with_end, with_zeros};
 ghost use Rattle.vx_push.specs.Mixing.{Mixing};
 ghost use Rattle.vx_c.specs.Call.{Calls, Opens, TellsLine, TellsNone};

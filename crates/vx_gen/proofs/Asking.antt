@@ -38,10 +38,10 @@ use Rattle.vx_pic.specs.Parts.{Parts}
 use Rattle.vx_pic.specs.PictureLayout.{are_in_pps, ids_of}
 use Rattle.vx_pic.specs.UnderSets.{picture_header_of}
 use Rattle.vx_pic.specs.Written.{Plan}
+use Rattle.vx_frame.specs.Regions.{corners_in, layout_of, placed_in}
+use Rattle.vx_frame.specs.Rounds.{picture_at}
+use Rattle.vx_frame.specs.Shapes.{frame_pps_shape, frame_sps_shape}
 use Rattle.vx_merge.specs.Headers.{AreNumbers}
-use Rattle.vx_merge.specs.Regions.{corners_in, layout_of, placed_in}
-use Rattle.vx_merge.specs.Rounds.{picture_at}
-use Rattle.vx_merge.specs.Shapes.{frame_pps_shape, frame_sps_shape}
 use Rattle.vx_merge.specs.Written.{IsMerged}
 use Rattle.vx_gen.specs.Pictures.{kind, nal_type, generated_pps, generated_sps}
 use Rattle.vx_gen.specs.Rounds.{corners, round}

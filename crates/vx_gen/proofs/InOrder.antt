@@ -7,8 +7,8 @@ use Rattle.std.proofs.lemmas.List.FromFn.{get_or-map-range_with_len, length-map-
 use Rattle.std.proofs.lemmas.Option.{slice_get-get_or, slice_get-map}
 use Rattle.vx_pic.specs.Parts.{Parts, parts_of}
 use Rattle.vx_pic.specs.Resident.{planned_of}
-use Rattle.vx_merge.specs.declared.corner.Corner.{Corner}
-use Rattle.vx_merge.specs.Merging.{IsCorner}
+use Rattle.vx_frame.specs.declared.corner.Corner.{Corner}
+use Rattle.vx_frame.specs.Corners.{IsCorner}
 use Rattle.vx_gen.specs.Pictures.{plans}
 use Rattle.vx_gen.specs.Rounds.{CornersAreThere, PlannedAreSoMany, PlannedMakeRounds, corners, planned}
 use Rattle.vx_gen.specs.Shown.{generated_parts, shown}

@@ -27,16 +27,16 @@ use Rattle.vx_pic.specs.UnderSets.{picture_header_of}
 use Rattle.vx_pic.specs.Written.{Plan, Set, SetUnit, a_pps, an_aps, an_sps, eos_units, sei_units, planned_slices, units_of}
 use Rattle.vx_write.specs.Units.{IsSeiUnit, IsSetUnit, IsUnitOf}
 use Rattle.vx_write.proofs.OwnSets.{units_hold}
-use Rattle.vx_merge.specs.Bodies.{has_lmcs, has_scaling, lmcs_body, once, scaling_body}
+use Rattle.vx_frame.specs.Bodies.{has_lmcs, has_scaling, lmcs_body, once, scaling_body, alf_bodies}
+use Rattle.vx_frame.specs.Rules.{VerdictIsOne, rules_of}
+use Rattle.vx_frame.specs.Shapes.{of_lowest}
+use Rattle.vx_frame.specs.Counts.{alf_slots, lmcs_slots, scaling_slots}
+use Rattle.vx_frame.specs.Verdict.{IsVerdict}
+use Rattle.vx_frame.proofs.Passing.{NoneBroken, none_found}
+use Rattle.vx_frame.proofs.Verdicts.{verdict_one}
 use Rattle.vx_merge.specs.Headers.{IsFront, IsMergedSlice, sourced}
-use Rattle.vx_merge.specs.Needed.{alf_bodies, by_ids, lmcs_bodies, sets_of_round, scaling_bodies}
-use Rattle.vx_merge.specs.Rules.{VerdictIsOne, rules_of}
-use Rattle.vx_merge.specs.Shapes.{of_lowest}
-use Rattle.vx_merge.specs.Slots.{alf_slots, lmcs_slots, scaling_slots}
-use Rattle.vx_merge.specs.Verdict.{IsVerdict}
+use Rattle.vx_merge.specs.Needed.{by_ids, lmcs_bodies, sets_of_round, scaling_bodies}
 use Rattle.vx_merge.specs.Written.{IsMerged, limits_of}
-use Rattle.vx_merge.proofs.Passing.{NoneBroken, none_found}
-use Rattle.vx_merge.proofs.Verdicts.{verdict_one}
 use Rattle.vx_gen.specs.Rounds.{AreGeneratedRounds, GeneratedAreNotBarred, GeneratedBreakNoRule, corners, round}
 use Rattle.vx_gen.specs.Units.{slice}
 use Rattle.vx_gen.proofs.Asking.{asks, first, kind_is, no_ph_bits}

@@ -25,13 +25,13 @@ use Rattle.vx_fit.specs.FrameLines.{IsLinesFault, no_numbers}
 use Rattle.vx_fit.specs.Placing.{in_ctus}
 use Rattle.vx_fit.proofs.Single.{fitting_faultless}
 use Rattle.vx_pic.specs.Parts.{Parts}
-use Rattle.vx_merge.specs.declared.corner.Corner.{Corner}
-use Rattle.vx_merge.specs.Bodies.{filters_in, has_lmcs, has_scaling, is_chroma_scaled, lmcs_body, once, scaling_body}
-use Rattle.vx_merge.specs.Collocated.{collocated}
-use Rattle.vx_merge.specs.Regions.{corners_in, ctb_of, layout_of, layouts_in, placed_in}
-use Rattle.vx_merge.specs.Rounds.{UnlikeFirst, UnlikeLowest, no_picture, picture_at}
-use Rattle.vx_merge.specs.Rules.{crosses_slices, crosses_tiles, first_lists, has_slices, has_tiles, kept_header, kept_pps, kept_sps, outputs_of, profile_of, rules_of, shared_kind}
-use Rattle.vx_merge.specs.Verdict.{IsVerdict}
+use Rattle.vx_frame.specs.declared.corner.Corner.{Corner}
+use Rattle.vx_frame.specs.Bodies.{filters_in, has_lmcs, has_scaling, is_chroma_scaled, lmcs_body, once, scaling_body}
+use Rattle.vx_frame.specs.Collocated.{collocated}
+use Rattle.vx_frame.specs.Regions.{corners_in, ctb_of, layout_of, layouts_in, placed_in}
+use Rattle.vx_frame.specs.Rounds.{UnlikeFirst, UnlikeLowest, no_picture, picture_at}
+use Rattle.vx_frame.specs.Rules.{crosses_slices, crosses_tiles, first_lists, has_slices, has_tiles, kept_header, kept_pps, kept_sps, outputs_of, profile_of, rules_of, shared_kind}
+use Rattle.vx_frame.specs.Verdict.{IsVerdict}
 use Rattle.vx_gen.specs.Pictures.{layout, generated_slice}
 use Rattle.vx_gen.specs.Rounds.{GeneratedBreakNoRule, corners, round}
 use Rattle.vx_gen.specs.Shown.{generated_parts}

@@ -6,10 +6,11 @@ use Rattle.vx_pic.specs.Parts.{Parts, parts_of}
 use Rattle.vx_pic.specs.Readings.{Picture}
 use Rattle.vx_pic.specs.Resident.{planned_of}
 use Rattle.vx_pic.specs.Written.{Plan}
-use Rattle.vx_merge.specs.declared.corner.Corner.{Corner}
-use Rattle.vx_merge.specs.Merging.{AreCorners, IsBarred, Passes}
-use Rattle.vx_merge.specs.Rules.{rules_of}
-use Rattle.vx_merge.specs.Verdict.{IsVerdict}
+use Rattle.vx_frame.specs.declared.corner.Corner.{Corner}
+use Rattle.vx_frame.specs.Corners.{AreCorners}
+use Rattle.vx_frame.specs.Rules.{rules_of}
+use Rattle.vx_frame.specs.Verdict.{IsVerdict}
+use Rattle.vx_merge.specs.Merging.{IsBarred, Passes}
 use Rattle.vx_gen.specs.Pictures.{plans}
 use Rattle.vx_gen.specs.Shown.{generated_parts}
 

@@ -13,12 +13,12 @@ use Rattle.vx_fields.specs.declared.ph.TheConstants.{ph_lmcs_aps_id, ph_scaling_
 use Rattle.vx_pic.specs.Inputs.{alf_of, bodies_of, body_of, named_body}
 use Rattle.vx_pic.specs.Parts.{Parts, SlicePart, id_count, read_of}
 use Rattle.vx_pic.specs.Sets.{Slot, filter_items, named}
-use Rattle.vx_merge.specs.declared.bodies.RoundBodies.{RoundBodies}
-use Rattle.vx_merge.specs.Bodies.{bodies_in, filters_in, filters_of, has_lmcs, has_scaling, is_among, lmcs_body, once, scaling_body, with_bodies}
-use Rattle.vx_merge.specs.Shapes.{of_lowest}
-use Rattle.vx_merge.specs.inner.Gathered.{AreGathered, HasNone, IsLowestWith}
+use Rattle.vx_frame.specs.declared.bodies.RoundBodies.{RoundBodies}
+use Rattle.vx_frame.specs.Bodies.{bodies_in, filters_in, filters_of, has_lmcs, has_scaling, is_among, lmcs_body, once, scaling_body, with_bodies}
+use Rattle.vx_frame.specs.Shapes.{of_lowest}
+use Rattle.vx_frame.specs.inner.Gathered.{AreGathered, HasNone, IsLowestWith}
+use Rattle.vx_frame.proofs.Reading.{lowest_absent}
 use Rattle.vx_merge.specs.inner.Sending.{CanEnd, HasEnds, HaveEnds}
-use Rattle.vx_merge.proofs.Reading.{lowest_absent}
 use Rattle.vx_write.proofs.Held.{both}
 
 abbrev CanAllEnd : List (List ℕ) → Type 0

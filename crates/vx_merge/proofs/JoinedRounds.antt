@@ -5,12 +5,12 @@ use Rattle.vx_pic.specs.Parts.{Parts}
 use Rattle.vx_pic.specs.Written.{Plan}
 use Rattle.vx_write.specs.declared.fault.WriteError.{WriteError}
 use Rattle.vx_write.specs.declared.fault.WriteError.TheVariants as errors
-use Rattle.vx_merge.specs.declared.corner.Corner.{Corner}
+use Rattle.vx_frame.specs.declared.corner.Corner.{Corner}
+use Rattle.vx_frame.specs.Verdict.{IsVerdict}
+use Rattle.vx_frame.specs.inner.Found.{Finds}
 use Rattle.vx_merge.specs.Joins.{IsBarredWhere, JudgesJoin, WritesJoined, after_end_of_sequence, join_start}
 use Rattle.vx_merge.specs.Merging.{Merging, WritesOneRound}
-use Rattle.vx_merge.specs.Verdict.{IsVerdict}
 use Rattle.vx_merge.specs.inner.Counting.{WritesWhere}
-use Rattle.vx_merge.specs.inner.Found.{Finds}
 use Rattle.vx_merge.proofs.Writing.{writes_stopped}
 
 -- the verdict that was found

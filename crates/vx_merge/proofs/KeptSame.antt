@@ -11,12 +11,12 @@ use Rattle.vx_pic.specs.Parts.{Parts}
 use Rattle.vx_pic.specs.Written.{SetUnit}
 use Rattle.vx_write.specs.InForce.{AreInForce}
 use Rattle.vx_write.proofs.Spelled.{pps_items, sps_items}
+use Rattle.vx_frame.specs.Rounds.{picture_at}
+use Rattle.vx_frame.specs.Shapes.{frame_pps_shape, frame_sps_shape}
+use Rattle.vx_frame.proofs.Passing.{pps_alike, sps_alike}
 use Rattle.vx_merge.specs.declared.needed.RoundSets.{RoundSets}
-use Rattle.vx_merge.specs.Rounds.{picture_at}
-use Rattle.vx_merge.specs.Shapes.{frame_pps_shape, frame_sps_shape}
 use Rattle.vx_merge.specs.inner.Ready.{IsReady}
 use Rattle.vx_merge.proofs.Apart.{frame_apart}
-use Rattle.vx_merge.proofs.Passing.{pps_alike, sps_alike}
 
 in_force_at : (round : List Parts) (k : ℕ) → k < length round → AllByRecursion AreInForce round → AreInForce (picture_at round k)
 in_force_at [] k short are = absurd (omega (arith, short))

@@ -16,8 +16,8 @@ use Rattle.vx_bits.specs.declared.rules.TheConstants as rules
 use Rattle.vx_fit.specs.Lowest.{IsLowest}
 use Rattle.vx_pic.specs.Rules.{picture_limit}
 use Rattle.vx_pic.specs.Written.{eos_units}
+use Rattle.vx_frame.specs.Verdict.{IsVerdict}
 use Rattle.vx_merge.specs.declared.output.RoundUnits.{RoundUnits}
-use Rattle.vx_merge.specs.Verdict.{IsVerdict}
 use Rattle.vx_bits.specs.Codes.{AreBytes}
 use Rattle.vx_merge.specs.inner.Making.{HasPayloads, capped, is_long, with_payloads, limits_by, size_of, slice_units}
 

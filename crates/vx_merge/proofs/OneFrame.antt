@@ -9,8 +9,8 @@ use Rattle.vx_pps.specs.declared.shape.PpsShape.{PpsShape}
 use Rattle.vx_pps.specs.Pps.{pps_form}
 use Rattle.vx_pps.specs.Reshaped.{IsReshapedPps, front_items, taken, tool_items, whole_flag}
 use Rattle.vx_pic.specs.Parts.{Parts}
-use Rattle.vx_merge.specs.declared.corner.Corner.{Corner}
-use Rattle.vx_merge.specs.Shapes.{frame_pps_shape}
+use Rattle.vx_frame.specs.declared.corner.Corner.{Corner}
+use Rattle.vx_frame.specs.Shapes.{frame_pps_shape}
 use Rattle.vx_table.proofs.Rewriting.{rewritten_one}
 use Rattle.vx_pps.proofs.OneGrouping.{divided_one}
 

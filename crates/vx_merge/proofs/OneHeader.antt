@@ -22,10 +22,10 @@ use Rattle.vx_pic.specs.Readings.{Begun}
 use Rattle.vx_pic.specs.UnderSets.{picture_header_of}
 use Rattle.vx_pic.specs.Written.{Set, SetUnit}
 use Rattle.vx_write.specs.Units.{IsUnitOf}
+use Rattle.vx_frame.specs.Rounds.{picture_at}
 use Rattle.vx_merge.specs.declared.needed.RoundSets.{RoundSets}
 use Rattle.vx_merge.specs.Headers.{HasMergedHeader, lmcs_shape, ph_shape}
 use Rattle.vx_merge.specs.Needed.{Ids}
-use Rattle.vx_merge.specs.Rounds.{picture_at}
 use Rattle.vx_merge.specs.Slots.{IsHeld, TakeSlots, TakesFree}
 use Rattle.vx_merge.specs.inner.Ready.{IsReady, ids_in}
 use Rattle.vx_merge.proofs.KeptSame.{apart, kept_same, some_picture}

@@ -26,15 +26,15 @@ use Rattle.vx_pic.specs.UnderSets.{picture_header_of}
 use Rattle.vx_pic.specs.Written.{Plan, SetUnit, eos_units, sei_units, planned_slices}
 use Rattle.vx_write.specs.Sending.{unsent}
 use Rattle.vx_write.specs.Units.{IsSeiUnit, IsSetUnit, IsUnitOf}
-use Rattle.vx_merge.specs.declared.corner.Corner.{Corner}
+use Rattle.vx_frame.specs.declared.corner.Corner.{Corner}
+use Rattle.vx_frame.specs.Regions.{corners_in, layouts_in}
+use Rattle.vx_frame.specs.Rounds.{picture_at}
+use Rattle.vx_frame.specs.Shapes.{frame_pps_shape, frame_sps_shape}
 use Rattle.vx_merge.specs.Headers.{HasMergedHeader, IsMergedSlice, ph_shape, sourced}
 use Rattle.vx_merge.specs.Needed.{Ids, TakeIds, sets_of_round}
-use Rattle.vx_merge.specs.Regions.{corners_in, layouts_in}
-use Rattle.vx_merge.specs.Rounds.{picture_at}
-use Rattle.vx_merge.specs.Shapes.{frame_pps_shape, frame_sps_shape}
 use Rattle.vx_bits.specs.Codes.{AreBytes}
+use Rattle.vx_frame.proofs.Gathered.{all_back, all_front}
 use Rattle.vx_merge.specs.Written.{IsMerged, MergedIsOne}
-use Rattle.vx_merge.proofs.Gathered.{all_back, all_front}
 use Rattle.vx_table.proofs.Rewriting.{rewritten_one}
 use Rattle.vx_table.proofs.Writings.{values_one}
 use Rattle.vx_pps.proofs.OneGrouping.{behind}

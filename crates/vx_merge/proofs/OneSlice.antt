@@ -25,7 +25,7 @@ use Rattle.vx_pic.specs.UnderSets.{at_slice_of}
 use Rattle.vx_merge.specs.Headers.{AreNumbers, IsFront, IsMergedSlice, SaysSlice}
 use Rattle.vx_merge.specs.Needed.{Ids}
 use Rattle.vx_bits.specs.Codes.{AreBytes}
-use Rattle.vx_merge.proofs.Gathered.{all_front}
+use Rattle.vx_frame.proofs.Gathered.{all_front}
 use Rattle.vx_table.proofs.Rewriting.{rewritten_one}
 use Rattle.vx_write.proofs.OneUnit.{unit_one}
 

@@ -10,13 +10,14 @@ use Rattle.vx_pic.specs.Resident.{last_of, same_bytes, same_set, serves}
 use Rattle.vx_pic.specs.Written.{Set, an_sps, a_pps, an_aps, SetUnit}
 use Rattle.vx_write.proofs.Held.{both}
 use Rattle.vx_write.proofs.Vacant.{itself_bytes, last_alike}
-use Rattle.vx_merge.specs.declared.corner.Corner.{Corner}
+use Rattle.vx_frame.specs.declared.corner.Corner.{Corner}
+use Rattle.vx_frame.specs.Bodies.{filters_in, has_lmcs, has_scaling, is_among, lmcs_body, once, scaling_body, with_bodies, alf_bodies}
+use Rattle.vx_frame.specs.Rounds.{picture_at}
+use Rattle.vx_frame.specs.Shapes.{of_lowest}
+use Rattle.vx_frame.specs.Counts.{alf_slots, lmcs_slots, scaling_slots}
 use Rattle.vx_merge.specs.declared.needed.RoundSets.{RoundSets}
-use Rattle.vx_merge.specs.Bodies.{filters_in, has_lmcs, has_scaling, is_among, lmcs_body, once, scaling_body, with_bodies}
-use Rattle.vx_merge.specs.Needed.{alf_bodies, aps_of_body, lmcs_bodies, scaling_bodies}
-use Rattle.vx_merge.specs.Rounds.{picture_at}
-use Rattle.vx_merge.specs.Shapes.{of_lowest}
-use Rattle.vx_merge.specs.Slots.{IsHeld, IsTaken, TakeSlots, TakesFree, alf_slots, lmcs_slots, scaling_slots}
+use Rattle.vx_merge.specs.Needed.{aps_of_body, lmcs_bodies, scaling_bodies}
+use Rattle.vx_merge.specs.Slots.{IsHeld, IsTaken, TakeSlots, TakesFree}
 use Rattle.vx_merge.specs.inner.Ready.{AreNeeded}
 use Rattle.vx_merge.specs.inner.Sending.{AreAllApart, AreApart}
 

@@ -18,13 +18,13 @@ use Rattle.vx_pic.specs.Written.{Plan, SeiUnit, SetUnit, eos_units, sei_units, u
 use Rattle.vx_write.specs.Sending.{AreSent, unsent}
 use Rattle.vx_write.specs.Slots.{AreLastOf, Sent}
 use Rattle.vx_write.specs.Units.{IsSeiUnit}
-use Rattle.vx_merge.specs.declared.corner.Corner.{Corner}
+use Rattle.vx_frame.specs.declared.corner.Corner.{Corner}
+use Rattle.vx_frame.specs.Rounds.{picture_at}
+use Rattle.vx_frame.specs.Shapes.{IsFrame, frame_pps_shape, frame_sps_shape}
 use Rattle.vx_merge.specs.declared.needed.RoundSets.{RoundSets}
 use Rattle.vx_merge.specs.declared.output.RoundUnits.{RoundUnits}
 use Rattle.vx_merge.specs.Headers.{IsFront, IsMergedSlice, sourced}
 use Rattle.vx_merge.specs.Needed.{Ids, TakeIds, sets_of_round}
-use Rattle.vx_merge.specs.Rounds.{picture_at}
-use Rattle.vx_merge.specs.Shapes.{IsFrame, frame_pps_shape, frame_sps_shape}
 use Rattle.vx_bits.specs.Codes.{AreBytes}
 use Rattle.vx_merge.specs.Written.{IsMerged}
 use Rattle.vx_merge.specs.inner.Making.{AreHeaders, AreRoundUnits, with_payloads, payload_of, payloads_in, size_of, slice_units, units_made}

@@ -9,7 +9,8 @@ use Rattle.vx_pic.specs.Written.{Set, a_pps, SetUnit}
 use Rattle.vx_write.specs.Slots.{AreLastOf, Sent, a_pps_of, is_vacant, pps_with_id}
 use Rattle.vx_write.proofs.Headed.{with_id_slot}
 use Rattle.vx_write.proofs.Vacant.{none_sent_there, vacant_alike, vacant_there}
-use Rattle.vx_merge.specs.Slots.{Holds, IsHeld, IsTaken, TakeSlots, TakesFree, pps_slots}
+use Rattle.vx_frame.specs.Counts.{pps_slots}
+use Rattle.vx_merge.specs.Slots.{Holds, IsHeld, IsTaken, TakeSlots, TakesFree}
 use Rattle.vx_merge.specs.inner.Taking.{IsEmptyPps, IsHeldAs}
 
 module _ (slots : List Sent) (t : ℕ) (pps : List Item) (is : ArePpsItems pps) (sent : List SetUnit) (last : AreLastOf sent slots) where

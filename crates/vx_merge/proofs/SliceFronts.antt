@@ -41,18 +41,19 @@ use Rattle.vx_sh.specs.InForce.{at_sets}
 use Rattle.vx_write.specs.InForce.{AreInForce}
 use Rattle.vx_write.specs.Units.{IsUnitOf}
 use Rattle.vx_write.proofs.Sizes.{subpics_count}
+use Rattle.vx_frame.specs.Bodies.{alf_bodies}
+use Rattle.vx_frame.specs.Regions.{corners_in, layout_of}
+use Rattle.vx_frame.specs.Rounds.{no_picture, picture_at}
+use Rattle.vx_frame.specs.Rules.{kept_header, shared_kind}
+use Rattle.vx_frame.specs.Shapes.{frame_sps_shape}
+use Rattle.vx_frame.specs.Counts.{alf_slots}
+use Rattle.vx_frame.proofs.Passing.{header_alike, kind_alike, one_subpic}
 use Rattle.vx_merge.specs.declared.needed.RoundSets.{RoundSets}
 use Rattle.vx_merge.specs.Headers.{IsFront, SaysSlice, id_for, sourced}
-use Rattle.vx_merge.specs.Needed.{alf_bodies, id_of_body}
-use Rattle.vx_merge.specs.Regions.{corners_in, layout_of}
-use Rattle.vx_merge.specs.Rounds.{no_picture, picture_at}
-use Rattle.vx_merge.specs.Rules.{kept_header, shared_kind}
-use Rattle.vx_merge.specs.Shapes.{frame_sps_shape}
-use Rattle.vx_merge.specs.Slots.{alf_slots}
+use Rattle.vx_merge.specs.Needed.{id_of_body}
 use Rattle.vx_merge.specs.inner.Fronts.{HasShape, IsBegun, IsInForce, new_filter, new_id}
 use Rattle.vx_merge.specs.inner.Ready.{IsReady, ids_in}
 use Rattle.vx_merge.proofs.KeptSame.{apart as sent_apart, kept_same}
-use Rattle.vx_merge.proofs.Passing.{header_alike, kind_alike, one_subpic}
 use Rattle.vx_merge.proofs.SliceFilters.{filter_takes, id_low, slots_low}
 use Rattle.vx_merge.proofs.SliceIds.{HaveIndices, have_indices}
 use Rattle.vx_merge.proofs.SliceRegions.{frame_count, frame_layout, region_is, same_slices}

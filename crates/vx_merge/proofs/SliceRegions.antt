@@ -20,12 +20,12 @@ use Rattle.vx_fit.proofs.Merged.{frame-merged}
 use Rattle.vx_sh.specs.Reshaped.{HaveSameSlices}
 use Rattle.vx_sh.specs.Whole.{points_at, num_slices_in_subpic}
 use Rattle.vx_pic.specs.Parts.{Parts}
-use Rattle.vx_merge.specs.declared.corner.Corner.{Corner}
-use Rattle.vx_merge.specs.Regions.{layout_of}
-use Rattle.vx_merge.specs.Rounds.{no_picture, picture_at}
-use Rattle.vx_merge.specs.inner.Geometry.{HasShapes, MakeFrame}
-use Rattle.vx_merge.proofs.FrameShaping.{merged}
-use Rattle.vx_merge.proofs.Joining.{corners_count}
+use Rattle.vx_frame.specs.declared.corner.Corner.{Corner}
+use Rattle.vx_frame.specs.Regions.{layout_of}
+use Rattle.vx_frame.specs.Rounds.{no_picture, picture_at}
+use Rattle.vx_frame.specs.inner.Geometry.{HasShapes, MakeFrame}
+use Rattle.vx_frame.proofs.FrameShaping.{merged}
+use Rattle.vx_frame.proofs.Joining.{corners_count}
 
 -- ---- entry points
 

@@ -17,15 +17,15 @@ use Rattle.vx_write.specs.Slots.{Sent}
 use Rattle.vx_write.specs.Writing.{Takes}
 use Rattle.vx_write.specs.declared.fault.WriteError.{WriteError}
 use Rattle.vx_write.specs.declared.fault.WriteError.TheVariants as errors
-use Rattle.vx_merge.specs.declared.corner.Corner.{Corner}
+use Rattle.vx_frame.specs.declared.corner.Corner.{Corner}
+use Rattle.vx_frame.specs.Rules.{rules_of}
+use Rattle.vx_frame.specs.Verdict.{IsVerdict}
 use Rattle.vx_merge.specs.declared.output.RoundUnits.{RoundUnits}
 use Rattle.vx_merge.specs.Merging.{ChecksRound, IsBarred, Merging, Passes, WritesOneRound}
-use Rattle.vx_merge.specs.Rules.{rules_of}
-use Rattle.vx_merge.specs.Verdict.{IsVerdict}
 use Rattle.vx_bits.specs.Codes.{AreBytes}
+use Rattle.vx_frame.specs.inner.Found.{Finds, Tries}
 use Rattle.vx_merge.specs.Written.{limits_of}
 use Rattle.vx_merge.specs.inner.Counting.{MakesRound}
-use Rattle.vx_merge.specs.inner.Found.{Finds, Tries}
 use Rattle.vx_merge.specs.inner.Making.{AreLimits, AreRoundUnits, limits_by, size_of, slice_units, units_made}
 use Rattle.vx_merge.proofs.Limiting.{written_size}
 

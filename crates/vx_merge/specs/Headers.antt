@@ -25,10 +25,10 @@ use Rattle.vx_pic.specs.Readings.{Begun, Slice}
 use Rattle.vx_pic.specs.Sets.{filter_items, signed, slice_qp}
 use Rattle.vx_pic.specs.UnderSets.{picture_header_of}
 use Rattle.vx_write.specs.Units.{IsUnitOf}
-use Rattle.vx_merge.specs.Bodies.{has_lmcs, is_chroma_scaled}
-use Rattle.vx_merge.specs.Needed.{Ids, alf_bodies, id_of_body}
-use Rattle.vx_merge.specs.Rounds.{picture_at}
-use Rattle.vx_merge.specs.Shapes.{of_lowest}
+use Rattle.vx_frame.specs.Bodies.{has_lmcs, is_chroma_scaled, alf_bodies}
+use Rattle.vx_frame.specs.Rounds.{picture_at}
+use Rattle.vx_frame.specs.Shapes.{of_lowest}
+use Rattle.vx_merge.specs.Needed.{Ids, id_of_body}
 
 -- ---- the picture header (our own)
 

@@ -7,11 +7,11 @@ use Rattle.vx_pic.specs.Sets.{is_non_ref}
 use Rattle.vx_pic.specs.Written.{Plan}
 use Rattle.vx_write.specs.declared.fault.WriteError.{WriteError}
 use Rattle.vx_write.specs.declared.fault.WriteError.TheVariants as errors
-use Rattle.vx_merge.specs.declared.corner.Corner.{Corner}
+use Rattle.vx_frame.specs.declared.corner.Corner.{Corner}
+use Rattle.vx_frame.specs.Rounds.{picture_at}
+use Rattle.vx_frame.specs.Rules.{of_source}
+use Rattle.vx_frame.specs.Verdict.{Rule, IsVerdict}
 use Rattle.vx_merge.specs.Merging.{IsBarred, Merging, WritesOneRound}
-use Rattle.vx_merge.specs.Rounds.{picture_at}
-use Rattle.vx_merge.specs.Rules.{of_source}
-use Rattle.vx_merge.specs.Verdict.{Rule, IsVerdict}
 
 -- the same picture behind an end of sequence
 abbrev pub after_end_of_sequence : Parts → Parts

@@ -1,6 +1,6 @@
 -- A merger, as its callers see it: by these words, and by the relation `Stands` between it and the pictures that it has written, or that
 -- have passed its checks: a merger either checks or writes. Our own.
-use Rattle.std.specs.Prelude.{◌≡◌, ◌⊎◌, ℕ, ◌<◌, ◌≤◌, List, ◌∷◌, All, length, Option, Some, None, Result, Ok, Err}
+use Rattle.std.specs.Prelude.{◌≡◌, ◌⊎◌, ℕ, List, ◌∷◌, length, Option, Some, None, Result, Ok, Err}
 use Rattle.std.specs.Io.KnownBytes.{Appends}
 use Rattle.vx_bits.specs.declared.refusal.Refusal.{Refusal}
 use Rattle.vx_io.specs.Faults.{Rose}
@@ -13,9 +13,9 @@ use Rattle.vx_write.specs.declared.fault.WriteError.{WriteError}
 use Rattle.vx_write.specs.declared.fault.WriteError.TheVariants as errors
 use Rattle.vx_write.specs.declared.fault.WriteFirst.{WriteFirst}
 use Rattle.vx_write.specs.Slots.{AreLastOf, Sent}
-use Rattle.vx_merge.specs.declared.corner.Corner.{Corner}
-use Rattle.vx_merge.specs.Rules.{rules_of}
-use Rattle.vx_merge.specs.Verdict.{IsVerdict}
+use Rattle.vx_frame.specs.declared.corner.Corner.{Corner}
+use Rattle.vx_frame.specs.Rules.{rules_of}
+use Rattle.vx_frame.specs.Verdict.{IsVerdict}
 use Rattle.vx_merge.specs.Written.{IsMerged, limits_of}
 
 -- A merger: the corners of the regions, in luma samples; the level that is asked for; the sets that were sent since the last IRAP or GDR
@@ -33,16 +33,6 @@ pub record Stands (m : Merging) (done : List Plan) : Type 0 where
   pub slots : AreLastOf (history_of done) m.slots
   pub bytes : m.bytes ≡ length (written (units_written done))
   pub going : m.first ≡ None
-
--- a corner that a region of a frame may have
-abbrev pub IsCorner : Corner → Type 0
-IsCorner corner = (corner.x < 16384) × (corner.y < 16384)
-
--- one to 64 of them
-pub record AreCorners (corners : List Corner) : Type 0 where
-  pub some : 0 < length corners
-  pub few : length corners ≤ 64
-  pub each : All IsCorner corners
 
 -- what stays whatever it answers: what was asked for
 pub record SameTask (old new : Merging) : Type 0 where

@@ -7,17 +7,14 @@ use Rattle.vx_pic.specs.Parts.{Parts}
 use Rattle.vx_pic.specs.Resident.{same_bytes}
 use Rattle.vx_pic.specs.Written.{Set, an_sps, a_pps, an_aps, SetUnit}
 use Rattle.vx_write.specs.Slots.{pps_with_id}
-use Rattle.vx_merge.specs.Bodies.{filters_in, has_lmcs, has_scaling, lmcs_body, once, scaling_body}
-use Rattle.vx_merge.specs.Shapes.{of_lowest}
-use Rattle.vx_merge.specs.Slots.{TakeSlots, alf_slots, lmcs_slots, pps_slots, scaling_slots}
+use Rattle.vx_frame.specs.Bodies.{alf_bodies, has_lmcs, has_scaling, lmcs_body, scaling_body}
+use Rattle.vx_frame.specs.Shapes.{of_lowest}
+use Rattle.vx_frame.specs.Counts.{alf_slots, lmcs_slots, pps_slots, scaling_slots}
+use Rattle.vx_merge.specs.Slots.{TakeSlots}
 
 -- ---- bodies of adaptation parameter sets
 
--- of the adaptive loop filters that are in force in slices, in the order of first use: by source, then by slice, then luma, chroma, Cb and
--- Cr; of LMCS and of scaling lists, of the lowest source whose picture header has them
-abbrev pub alf_bodies : List Parts → List (List ℕ)
-alf_bodies round = once (flat_map filters_in round)
-
+-- of LMCS and of scaling lists: of the lowest source whose picture header has them; of adaptive loop filters by `alf_bodies`
 abbrev pub lmcs_bodies : List Parts → List (List ℕ)
 lmcs_bodies round = option_to_list (of_lowest has_lmcs lmcs_body None round)
 

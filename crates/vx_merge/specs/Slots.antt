@@ -5,19 +5,6 @@ use Rattle.vx_fit.specs.Lowest.{IsLowest}
 use Rattle.vx_pic.specs.Resident.{last_of, serves}
 use Rattle.vx_pic.specs.Written.{Set, SetUnit}
 
--- how many ids a type has (H.266 7.4.3.5, 7.4.3.6)
-abbrev pub pps_slots : ℕ
-pps_slots = 64
-
-abbrev pub alf_slots : ℕ
-alf_slots = 8
-
-abbrev pub lmcs_slots : ℕ
-lmcs_slots = 4
-
-abbrev pub scaling_slots : ℕ
-scaling_slots = 8
-
 -- Sets of one type, in the order of their first use: `at k i` is the k-th one with the id i. These slots are looked at for a picture of
 -- a TemporalId, behind the sets that count as sent.
 module _ (count n t : ℕ) (sent : List SetUnit) (at : ℕ → ℕ → Set) where

@@ -14,13 +14,13 @@ use Rattle.vx_pic.specs.Resident.{is_resident, sent_before, units_written}
 use Rattle.vx_pic.specs.Rules.{picture_limit, unit_size}
 use Rattle.vx_pic.specs.Written.{Plan, SetUnit, planned_slices, units_of}
 use Rattle.vx_write.specs.Units.{IsSeiUnit, IsSetUnit}
-use Rattle.vx_merge.specs.declared.corner.Corner.{Corner}
+use Rattle.vx_frame.specs.declared.corner.Corner.{Corner}
+use Rattle.vx_frame.specs.Rounds.{picture_at}
+use Rattle.vx_frame.specs.Rules.{of_limit}
+use Rattle.vx_frame.specs.Shapes.{IsFrame, frame_pps_shape, frame_sps_shape}
+use Rattle.vx_frame.specs.Verdict.{Rule}
 use Rattle.vx_merge.specs.Headers.{HasMergedHeader, IsMergedSlice, sourced}
 use Rattle.vx_merge.specs.Needed.{Ids, TakeIds, sets_of_round}
-use Rattle.vx_merge.specs.Rounds.{picture_at}
-use Rattle.vx_merge.specs.Rules.{of_limit}
-use Rattle.vx_merge.specs.Shapes.{IsFrame, frame_pps_shape, frame_sps_shape}
-use Rattle.vx_merge.specs.Verdict.{Rule}
 
 -- ---- pictures
 

@@ -6,8 +6,8 @@ ghost use Rattle.vx_ph.specs.Reshaped as ph_reshaped;
 ghost use Rattle.vx_pic.specs.Parts.{SlicePart};
 ghost use Rattle.vx_pic.specs.PictureLayout.{ids_of};
 ghost use Rattle.vx_pic.specs.Readings.{Begun};
+ghost use Rattle.vx_frame.specs.Rounds.{picture_at};
 ghost use Rattle.vx_merge.specs.Headers.{IsFront, ph_shape, sourced};
-ghost use Rattle.vx_merge.specs.Rounds.{picture_at};
 ghost use Rattle.vx_merge.specs.inner.Fronts.{AreFronts, IsBegun, IsInForce};
 ghost use Rattle.vx_merge.specs.inner.Ready.{IsReadyAt, ids_in};
 

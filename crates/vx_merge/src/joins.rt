@@ -2,14 +2,14 @@
 ghost use Rattle.std.specs.Prelude.{◌≡◌, ◌≤◌, ◌∷◌, [], length};
 ghost use Rattle.std.specs.Bool.{OnTrue, OnFalse};
 ghost use Rattle.vx_fit.specs.Lowest.{IsLowestAnswer};
+ghost use Rattle.vx_frame.specs.inner.Found.{Finds};
 ghost use Rattle.vx_merge.specs.Joins as words;
 ghost use Rattle.vx_merge.specs.Joins.{CanStart};
-ghost use Rattle.vx_merge.specs.inner.Found.{Finds};
 
-use crate::told::of_source;
 use vx_bits::Refusal;
 use vx_bits::rules::JOIN_START;
 use vx_fields::ph::ph_non_ref_pic_flag;
+use vx_frame::of_source;
 use vx_pic::{Picture, number_of};
 
 /// Whether a picture may come first behind a join.

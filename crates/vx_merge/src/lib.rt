@@ -5,43 +5,25 @@
 //! they break. [`Merger::joined_round`] joins a round behind those before it, behind an end of sequence. The rules are defined in the folder `specs`. [`lengths`] tells which sources have ended.
 #![tactic(auto)]
 
-mod bodies;
-mod borders;
-mod collocated;
-mod corner;
 mod ended;
 mod ending;
-mod filters;
-mod frame;
-mod frame_sets;
 mod fronts;
-mod geometry;
-mod headers;
 mod ids;
-mod items;
 mod joins;
 mod laws;
-mod laws_shapes;
 mod limits;
 mod merger;
 mod needed;
 mod output;
 mod picture_header;
 mod progress;
-mod regions;
 mod round;
 mod send;
-mod sets;
-mod shapes;
 mod slice_shape;
-mod slices;
-mod told;
-mod verdict;
 
-pub use collocated::Collocated;
-pub use corner::Corner;
 pub use ended::Lengths;
 pub use ending::lengths;
-pub use laws::{merged_is_one, verdict_is_one};
+pub use laws::merged_is_one;
 pub use merger::Merger;
+pub use vx_frame::{Corner, verdict_is_one};
 pub use vx_write::{WriteError, WriteFirst};

@@ -1,19 +1,20 @@
 //! Round after round of pictures that are put together.
 ghost use Rattle.std.specs.Prelude.{◌≡◌, All, List, length, map, IfOk, OnOk};
 ghost use Rattle.vx_pic.specs.Written.{Plan};
+ghost use Rattle.vx_frame.specs.Corners.{AreCorners};
 ghost use Rattle.vx_merge.specs.Joins as words;
 ghost use Rattle.vx_merge.specs.Joins.{WritesJoined};
-ghost use Rattle.vx_merge.specs.Merging.{AreCorners, ChecksRound, Stands, WritesOneRound};
+ghost use Rattle.vx_merge.specs.Merging.{ChecksRound, Stands, WritesOneRound};
 ghost use Rattle.vx_merge.specs.inner.Counting.{WritesWhere};
 ghost use Rattle.vx_merge.specs.inner.Progress.{IsProgress, merging_of};
 
-use crate::corner::Corner;
 use crate::joins::join_start;
 use crate::output::write_units;
 use crate::progress::Progress;
 use crate::round::round_units;
 use std::alloc::{AllocError, Global};
 use std::marker::Model;
+use vx_frame::Corner;
 use vx_io::Sink;
 use vx_pic::{Lender, Picture, lent};
 use vx_write::{Slots, WriteError, WriteFirst, first_of};
@@ -33,7 +34,8 @@ pub struct Merger {
 
 impl Model for Merger {
     ghost use Rattle.std.specs.Prelude.{◌≡◌, None};
-    ghost use Rattle.vx_merge.specs.Merging.{Merging, AreCorners};
+    ghost use Rattle.vx_frame.specs.Corners.{AreCorners};
+    ghost use Rattle.vx_merge.specs.Merging.{Merging};
     ghost use Rattle.vx_merge.specs.inner.Progress.{IsProgress};
 
     ghost Value = { Merging };
@@ -154,9 +156,10 @@ impl Merger {
     ghost use Rattle.vx_write.specs.Faults as faults;
     ghost use Rattle.vx_write.specs.declared.fault.WriteFirst.{WriteFirst as First};
     ghost use Rattle.vx_write.specs.declared.fault.WriteError.TheVariants.{Stopped};
+    ghost use Rattle.vx_frame.specs.Corners.{AreCorners};
     ghost use Rattle.vx_merge.specs.Joins as words;
     ghost use Rattle.vx_merge.specs.Joins.{WritesJoined};
-    ghost use Rattle.vx_merge.specs.Merging.{AreCorners, ChecksRound, SameTask, Stands, WritesOneRound};
+    ghost use Rattle.vx_merge.specs.Merging.{ChecksRound, SameTask, Stands, WritesOneRound};
     ghost use Rattle.vx_merge.specs.inner.Counting.{WritesWhere};
 
     /// A merger of regions with these upper left corners, in luma samples, with a level of its own or the sources' highest.

@@ -5,10 +5,10 @@ ghost use Rattle.vx_ph.specs.Picture.{IsHeader, IsPictureHeaderUnit};
 ghost use Rattle.vx_ph.specs.Reshaped.{IsReshapedPictureHeader};
 ghost use Rattle.vx_pic.specs.declared.unit_types.TheConstants as types;
 ghost use Rattle.vx_write.specs.Units.{IsUnitOf};
-ghost use Rattle.vx_merge.specs.Bodies as bodies;
+ghost use Rattle.vx_frame.specs.Bodies as bodies;
+ghost use Rattle.vx_frame.specs.Rounds.{picture_at};
+ghost use Rattle.vx_frame.specs.Shapes.{of_lowest};
 ghost use Rattle.vx_merge.specs.Headers as spec;
-ghost use Rattle.vx_merge.specs.Rounds.{picture_at};
-ghost use Rattle.vx_merge.specs.Shapes.{of_lowest};
 ghost use Rattle.vx_merge.specs.inner.Ready.{IsSomeReady, ids_in};
 
 use crate::needed::{NamedBodies, RoundSets};

@@ -1,12 +1,12 @@
 //! What a merger keeps from round to round.
-use crate::frame::Frame;
+use vx_frame::Frame;
 use vx_write::Slots;
 
 /// What a merger keeps from round to round.
 #[derive(Drop)]
 pub(crate) struct Progress {
     /// The frame of the last round.
-    pub(crate) frame: Option<Frame>,
+    pub(crate) frame: Option<Box<Frame>>,
     /// The last sets that were sent.
     pub(crate) slots: Slots,
     /// How many bytes were written.

@@ -1,25 +1,24 @@
 //! A round that is put together as one picture, and written.
-ghost use Rattle.std.specs.Prelude.{◌≡◌, ℕ, ◌<◌, ◌≤◌, ◌∷◌, [], ◌++◌, List, Option, None, length, map, flat_map, option_map, IfOk, IfSome, OnOk};
+ghost use Rattle.std.specs.Prelude.{◌≡◌, ℕ, ◌<◌, ◌∷◌, [], ◌++◌, List, Option, length, map, flat_map, option_map, IfOk, IfSome, OnOk};
 ghost use Rattle.vx_pic.specs.Resident.{kept_for as sets_kept_for};
 ghost use Rattle.vx_pic.specs.Written.{Plan, SetUnit, a_pps};
 ghost use Rattle.vx_write.specs.Slots.{AreLastOf, pps_with_id};
 ghost use Rattle.vx_write.specs.Units.{IsSeiUnit};
-ghost use Rattle.vx_merge.specs.declared.corner.Corner.{Corner};
-ghost use Rattle.vx_merge.specs.Merging.{AreCorners, Stands};
-ghost use Rattle.vx_merge.specs.Rounds.{picture_at};
-ghost use Rattle.vx_merge.specs.Rules.{rules_of, rules_of_pictures, rules_of_slices};
-ghost use Rattle.vx_merge.specs.Slots.{TakeSlots, pps_slots};
-ghost use Rattle.vx_merge.specs.inner.Found.{HasHistory, Tries};
-ghost use Rattle.vx_merge.specs.inner.Gathered.{AreGathered};
-ghost use Rattle.vx_merge.specs.inner.Making.{AreHeaders, HasPayloads, AreRoundUnits, payload_of, payloads_in};
-ghost use Rattle.vx_merge.specs.inner.Counting.{AreUnitsOf, ChecksRules, MakesRound};
-ghost use Rattle.vx_merge.specs.inner.Progress.{IsProgress, merging_of};
+ghost use Rattle.vx_frame.specs.declared.corner.Corner.{Corner};
+ghost use Rattle.vx_frame.specs.Corners.{AreCorners};
+ghost use Rattle.vx_frame.specs.Rounds.{picture_at};
+ghost use Rattle.vx_frame.specs.Rules.{rules_of};
+ghost use Rattle.vx_frame.specs.Counts.{pps_slots};
+ghost use Rattle.vx_frame.specs.inner.Found.{Tries};
+ghost use Rattle.vx_frame.specs.inner.Gathered.{AreGathered};
+ghost use Rattle.vx_frame.specs.inner.Frames.{HasPps, IsKeptFrame, IsSomeUsed, IsUsedFor, ServesAs};
+ghost use Rattle.vx_merge.specs.Merging.{Stands};
+ghost use Rattle.vx_merge.specs.Slots.{TakeSlots};
+ghost use Rattle.vx_merge.specs.inner.Progress.{HasHistory, IsProgress, merging_of};
+ghost use Rattle.vx_merge.specs.inner.Making.{AreHeaders, HasPayloads, AreRoundUnits, payloads_in};
+ghost use Rattle.vx_merge.specs.inner.Counting.{AreUnitsOf, MakesRound};
 ghost use Rattle.vx_merge.specs.inner.Ready.{IsReadyAt};
-ghost use Rattle.vx_merge.specs.inner.Frames.{HasPps, IsFrameOf, IsKeptFrame, IsSomeUsed, IsUsedFor, KnownWhereKept, ServesAs, SomePassed};
 
-use crate::bodies::{RoundBodies, round_bodies};
-use crate::corner::Corner;
-use crate::frame::{Frame, RoundFrame, have_pps, round_frame, whole_frame};
 use crate::fronts::slice_fronts;
 use crate::limits::bytes_within;
 use crate::needed::{RoundSets, needed, taken_pps_id};
@@ -27,9 +26,9 @@ use crate::output::RoundUnits;
 use crate::picture_header::{header_unit, picture_header};
 use crate::progress::Progress;
 use crate::send::send_needed;
-use crate::verdict::verdict;
 use std::alloc::{AllocError, Global};
 use vx_bits::BodyList;
+use vx_frame::{Corner, Frame, RoundBodies, have_pps, round_bodies, sound_frame};
 use vx_layout::Layout;
 use vx_pic::{Kind, Picture, picture_ids};
 use vx_write::{Slots, WriteError, forget_before, sei_unit};
@@ -176,54 +175,6 @@ fn units_behind<'a>(
     Ok(units)
 }
 
-/// Whether the pictures of a round break no rule, where its sets break none.
-///
-/// # Errors
-///
-/// The first rule that they break, or want of memory.
-fn check_pictures(
-    alloc: Global,
-    round: &[Picture<'_>],
-    bodies: &RoundBodies<'_>,
-    frame: &RoundFrame,
-) -> Result<(), WriteError>
-    requires count { (0 < length round.now) × (length round.now ≤ 64) }
-    requires bodies { AreGathered round.now bodies.now }
-    requires frame { KnownWhereKept (SomePassed round.now) round.now frame.now }
-    ensures { ChecksRules (length round.now) (rules_of_pictures round.now ++ rules_of_slices round.now) result }
-{
-    let found = verdict(alloc, round, bodies, frame)?;
-    match found {
-        Some(refusal) => Err(WriteError::Refused(refusal)),
-        None => Ok(()),
-    }
-}
-
-/// The frame of a round that breaks no rule: the one that was kept, where it serves.
-///
-/// # Errors
-///
-/// The first rule that the round breaks, or want of memory.
-fn sound_frame(
-    alloc: Global,
-    corners: &[Corner],
-    level: Option<u8>,
-    kept: Option<Frame>,
-    round: &[Picture<'_>],
-    bodies: &RoundBodies<'_>,
-) -> Result<Frame, WriteError>
-    requires corners { AreCorners corners.now }
-    requires same { length corners.now ≡ length round.now }
-    requires kept { IfSome kept (IsKeptFrame corners.now level) }
-    requires bodies { AreGathered round.now bodies.now }
-    ensures { Tries (length round.now) (rules_of corners.now round.now) (IsFrameOf corners.now level round.now) result }
-{
-    let begun = round_frame(alloc, corners, kept, round)?;
-    check_pictures(alloc, round, bodies, &begun)?;
-    let frame = whole_frame(alloc, level, begun, round)?;
-    Ok(frame)
-}
-
 /// All that is written of a round that breaks no rule, behind the sets that were sent. Its frame is kept then.
 ///
 /// # Errors
@@ -233,23 +184,24 @@ fn sound_units<'a>(
     alloc: Global,
     corners: &[Corner],
     level: Option<u8>,
-    kept: &mut Option<Frame>,
+    kept: &mut Option<Box<Frame>>,
     slots: &mut Slots,
     round: &[Picture<'a>],
 ) -> Result<RoundUnits<'a>, WriteError>
     requires corners { AreCorners corners.now }
     requires same { length corners.now ≡ length round.now }
-    requires kept { IfSome kept.old (IsKeptFrame corners.now level) }
+    requires kept { IfSome kept.old (λ f. IsKeptFrame corners.now level f.value) }
     requires slots { HasHistory slots.old }
-    ensures kept { OnOk result (IfSome kept.new (IsKeptFrame corners.now level)) }
+    ensures kept { OnOk result (IfSome kept.new (λ f. IsKeptFrame corners.now level f.value)) }
     ensures payloads { IfOk result HasPayloads }
     ensures units { (history : List SetUnit) → AreLastOf history slots.old
         → Tries (length round.now) (rules_of corners.now round.now) (AreUnitsOf corners.now level round.now history slots.new) result }
 {
     let bodies = round_bodies(alloc, round)?;
     let mut frame = sound_frame(alloc, corners, level, kept.take(), round, &bodies)?;
-    let units = units_behind(alloc, &mut frame, slots, round, bodies)?;
+    let made = units_behind(alloc, &mut frame, slots, round, bodies);
     *kept = Some(frame);
+    let units = made?;
     Ok(units)
 }
 

@@ -6,7 +6,7 @@ ghost use Rattle.vx_pic.specs.Parts.{Parts};
 ghost use Rattle.vx_pic.specs.Written.{Set, SetUnit};
 ghost use Rattle.vx_write.specs.Sending.{AreOthers, AreSent};
 ghost use Rattle.vx_write.specs.Slots.{AreLastOf};
-ghost use Rattle.vx_merge.specs.declared.corner.Corner.{Corner};
+ghost use Rattle.vx_frame.specs.declared.corner.Corner.{Corner};
 ghost use Rattle.vx_merge.specs.Needed.{by_ids, sets_of_round, sets_with_id};
 ghost use Rattle.vx_merge.specs.inner.Ready.{AreNeeded, ids_in};
 ghost use Rattle.vx_merge.specs.inner.Sending.{AreAllApart, AreApart, AreOfOthers, CanBeNamed, CanBeSent, bodies_sent};

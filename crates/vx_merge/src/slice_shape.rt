@@ -14,10 +14,7 @@ ghost use Rattle.vx_merge.specs.Needed as words;
 ghost use Rattle.vx_merge.specs.inner.Fronts.{HasShape, new_filter, new_id};
 ghost use Rattle.vx_merge.specs.inner.Fronts as spec;
 
-use crate::filters::same_bytes;
-use crate::headers::header_number;
 use crate::needed::NamedBodies;
-use crate::shapes::init_qp;
 use std::alloc::{AllocError, Global};
 use vx_aps::ALF;
 use vx_bits::{Fields, Item};
@@ -30,6 +27,7 @@ use vx_fields::sh::{
     sh_explicit_scaling_list_used_flag, sh_lmcs_used_flag, sh_picture_header_in_slice_header_flag,
     sh_qp_delta,
 };
+use vx_frame::{header_number, init_qp, same_bytes};
 use vx_pic::{Picture, number_of};
 use vx_sh::{ShShape, SliceHeader};
 use vx_table::natural;

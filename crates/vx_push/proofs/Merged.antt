@@ -7,8 +7,8 @@ use Rattle.vx_pic.specs.declared.kind.Kind.{Kind}
 use Rattle.vx_assemble.specs.Held.{lent_by}
 use Rattle.vx_write.specs.declared.fault.WriteError.{WriteError}
 use Rattle.vx_write.specs.declared.fault.WriteError.TheVariants as errors
+use Rattle.vx_frame.specs.Rounds.{picture_at}
 use Rattle.vx_merge.specs.Merging.{Merging, WritesOneRound}
-use Rattle.vx_merge.specs.Rounds.{picture_at}
 use Rattle.vx_push.specs.Comes.{Intaking}
 use Rattle.vx_push.specs.inner.Mixing.{MergesHanded, stop_by, round_of}
 

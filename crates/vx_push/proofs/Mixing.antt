@@ -14,7 +14,7 @@ use Rattle.vx_pic.specs.Written.{Plan}
 use Rattle.vx_run.specs.declared.stop.Place.{Place}
 use Rattle.vx_run.specs.declared.stop.Place.TheVariants as places
 use Rattle.vx_assemble.specs.Held.{lent_by}
-use Rattle.vx_merge.specs.declared.corner.Corner.{Corner}
+use Rattle.vx_frame.specs.declared.corner.Corner.{Corner}
 use Rattle.vx_merge.specs.declared.ended.Lengths.TheVariants.{AllGo, AllEnded as AllEnd, Differ}
 use Rattle.vx_merge.specs.Ends.{IsLengths}
 use Rattle.vx_merge.specs.Merging.{Merging, Stands}

@@ -1,6 +1,6 @@
 //! Corners that a mixer may have.
 ghost use Rattle.std.specs.Prelude.{◌↔◌, IsTrue};
-ghost use Rattle.vx_merge.specs.Merging.{AreCorners, IsCorner};
+ghost use Rattle.vx_frame.specs.Corners.{AreCorners, IsCorner};
 
 use vx_merge::Corner;
 

@@ -3,7 +3,8 @@ ghost use Rattle.std.specs.Prelude.{◌≡◌, ℕ, ◌+◌, ◌-◌, ◌^◌, �
 ghost use Rattle.vx_pic.specs.Rules.{Readers};
 ghost use Rattle.vx_pic.specs.H266.{AreOfH266};
 ghost use Rattle.vx_pic.specs.Written.{Plan};
-ghost use Rattle.vx_merge.specs.Merging.{AreCorners, SameTask, Stands};
+ghost use Rattle.vx_frame.specs.Corners.{AreCorners};
+ghost use Rattle.vx_merge.specs.Merging.{SameTask, Stands};
 ghost use Rattle.vx_push.specs.Comes.{Handed, nothing};
 ghost use Rattle.vx_push.specs.declared.intake.State.TheVariants.{Picture as AtPicture};
 ghost use Rattle.vx_push.specs.Mixing.{MixedIsMerged};
@@ -54,7 +55,7 @@ pub struct Mixer {
 
 impl Model for Mixer {
     ghost use Rattle.std.specs.Prelude.{◌≡◌, length, vec_len};
-    ghost use Rattle.vx_merge.specs.Merging.{AreCorners};
+    ghost use Rattle.vx_frame.specs.Corners.{AreCorners};
     ghost use Rattle.vx_push.specs.Mixing.{Mixing};
 
     ghost Value = { Mixing };
@@ -184,7 +185,8 @@ impl Mixer {
     ghost use Rattle.vx_pic.specs.H266.{AreOfH266};
     ghost use Rattle.vx_pic.specs.declared.kind.Kind.{Kind as KindOf};
     ghost use Rattle.vx_pic.specs.Written.{Plan};
-    ghost use Rattle.vx_merge.specs.Merging.{AreCorners, SameTask};
+    ghost use Rattle.vx_frame.specs.Corners.{AreCorners};
+    ghost use Rattle.vx_merge.specs.Merging.{SameTask};
     ghost use Rattle.vx_push.specs.Comes.{Intaking, Handed, nothing, with_more, with_zeros, with_end};
     ghost use Rattle.vx_push.specs.declared.mixer.Mixed.{Mixed as Answer};
     ghost use Rattle.vx_push.specs.declared.mixer.Mixed.TheVariants.{Picture as ToPicture, Waits as ToWait};

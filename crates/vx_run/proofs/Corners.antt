@@ -14,7 +14,7 @@ use Rattle.vx_assemble.specs.Feed.{Feeding, Advances}
 use Rattle.vx_write.specs.declared.fault.WriteError.{WriteError}
 use Rattle.vx_write.specs.declared.fault.WriteError.TheVariants as errors
 use Rattle.vx_write.specs.declared.fault.WriteFirst.{WriteFirst}
-use Rattle.vx_merge.specs.Merging.{IsCorner, AreCorners}
+use Rattle.vx_frame.specs.Corners.{IsCorner, AreCorners}
 use Rattle.vx_run.specs.declared.stop.Stop.{Stop}
 use Rattle.vx_run.specs.declared.stop.Stop.TheVariants.{NotUnderstood, Mismatched, Refused, ReadFault, WriteFault, NoMemory}
 use Rattle.vx_run.specs.declared.placings.Placing.{Placing as Placed}

@@ -19,7 +19,7 @@ use Rattle.vx_run.specs.Extract.{BreakNoRule, RefusesExtraction, by_ending, by_p
 use Rattle.vx_run.specs.Grammar.{Command, Placing, show, extract, check_extract, merge, play, check_merge, verify, trial, help, version, explain, AskFor, IsUnderstood, NamesFiles}
 use Rattle.vx_run.specs.Trial.{EndsTrial}
 use Rattle.vx_run.specs.Run.{Does, Performs, Runs}
-use Rattle.vx_merge.specs.declared.corner.Corner.{Corner}
+use Rattle.vx_frame.specs.declared.corner.Corner.{Corner}
 use Rattle.vx_run.specs.Rounds.{Stream, OfEachSource, WhereAllTold, most_sources, too_many}
 use Rattle.vx_run.specs.Merge.{EndsWritten, EndsOnce, ChecksMergeBy, MergesBy, corner_of, corners_of}
 use Rattle.vx_run.specs.Play.{EndsPlayed, PlayEndsOnce, PlaysBy, file_regions, most_files, region_corners, region_at_corner, too_many_files}

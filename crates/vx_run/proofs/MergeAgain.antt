@@ -15,7 +15,7 @@ use Rattle.vx_pic.specs.Readings.{Picture}
 use Rattle.vx_pic.specs.Resident.{planned_of}
 use Rattle.vx_pic.specs.Rules.{Readers}
 use Rattle.vx_pic.specs.Written.{Plan}
-use Rattle.vx_merge.specs.declared.corner.Corner.{Corner}
+use Rattle.vx_frame.specs.declared.corner.Corner.{Corner}
 use Rattle.vx_merge.specs.Merging.{Passes}
 use Rattle.vx_again.specs.Sources.{CanBeMerged, PicturesCanBeMerged}
 use Rattle.vx_again.specs.Streams.{AreMerged, earlier, lasts}

@@ -6,7 +6,7 @@ use Rattle.vx_pic.specs.Rules.{Readers}
 use Rattle.vx_pic.specs.Written.{Plan}
 use Rattle.vx_assemble.specs.Held.{lent_by}
 use Rattle.vx_assemble.specs.Feed.{Feeding}
-use Rattle.vx_merge.specs.declared.corner.Corner.{Corner}
+use Rattle.vx_frame.specs.declared.corner.Corner.{Corner}
 use Rattle.vx_merge.specs.Merging.{Passes}
 use Rattle.vx_run.specs.Change.{Sources, sources_change}
 use Rattle.vx_run.specs.Rounds.{Stream, IsRound, AreTold}

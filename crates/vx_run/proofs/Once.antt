@@ -9,12 +9,12 @@ use Rattle.vx_pic.specs.Readings.{Picture}
 use Rattle.vx_pic.specs.Bytes.{Ending}
 use Rattle.vx_pic.specs.Parts.{Parts, parts_of}
 use Rattle.vx_pic.specs.Written.{Plan}
-use Rattle.vx_merge.specs.declared.corner.Corner.{Corner}
+use Rattle.vx_frame.specs.declared.corner.Corner.{Corner}
+use Rattle.vx_frame.specs.Rules.{rules_of}
+use Rattle.vx_frame.specs.Verdict.{IsVerdict}
+use Rattle.vx_frame.proofs.Verdicts.{verdict_one}
 use Rattle.vx_merge.specs.Merging.{Passes, IsBarred}
-use Rattle.vx_merge.specs.Rules.{rules_of}
-use Rattle.vx_merge.specs.Verdict.{IsVerdict}
 use Rattle.vx_merge.specs.Written.{IsMerged, MergedIsOne, limits_of}
-use Rattle.vx_merge.proofs.Verdicts.{verdict_one}
 use Rattle.vx_run.specs.declared.stop.Place.TheVariants as places
 use Rattle.vx_run.specs.declared.stop.Stop.{Stop}
 use Rattle.vx_run.specs.declared.stop.Stop.TheVariants.{Refused}

@@ -14,10 +14,11 @@ use Rattle.vx_pic.specs.Readings.{Picture}
 use Rattle.vx_pic.specs.Resident.{planned_of}
 use Rattle.vx_pic.specs.Rules.{Readers}
 use Rattle.vx_pic.specs.Written.{Plan}
-use Rattle.vx_merge.specs.declared.corner.Corner.{Corner}
+use Rattle.vx_frame.specs.declared.corner.Corner.{Corner}
+use Rattle.vx_frame.specs.Corners.{AreCorners}
+use Rattle.vx_frame.specs.Rounds.{no_picture, picture_at}
 use Rattle.vx_merge.specs.Joins.{CanStart, JudgesJoin, after_end_of_sequence}
-use Rattle.vx_merge.specs.Merging.{AreCorners, Passes}
-use Rattle.vx_merge.specs.Rounds.{no_picture, picture_at}
+use Rattle.vx_merge.specs.Merging.{Passes}
 use Rattle.vx_play.specs.Scheduled.{files_of_region}
 use Rattle.vx_again.specs.Played.{PlayedCanBeMerged}
 use Rattle.vx_again.specs.Sources.{CanBeMerged, PicturesCanBeMerged}

@@ -4,16 +4,16 @@ use Rattle.std.proofs.lemmas.Option.{same_Some}
 use Rattle.vx_bits.specs.declared.refusal.Refusal.{Refusal}
 use Rattle.vx_pic.specs.Parts.{Parts}
 use Rattle.vx_pic.specs.Written.{Plan}
-use Rattle.vx_merge.specs.declared.corner.Corner.{Corner}
+use Rattle.vx_frame.specs.declared.corner.Corner.{Corner}
+use Rattle.vx_frame.specs.Verdict.{Rule}
 use Rattle.vx_merge.specs.Joins.{IsBarredWhere, join_start}
-use Rattle.vx_merge.specs.Verdict.{Rule}
 use Rattle.vx_merge.specs.Written.{MergedIsOne}
 use Rattle.vx_run.specs.declared.stop.Place.TheVariants as places
 use Rattle.vx_run.specs.declared.stop.Stop.{Stop}
 use Rattle.vx_run.specs.declared.stop.Stop.TheVariants.{Refused}
 use Rattle.vx_run.specs.Play.{ArePlayedOf, PassesWhere, PlayEndsOnce, is_join, marked, play_telling, refused_file, region_streams}
 use Rattle.vx_play.specs.Scheduled.{files_of_region}
-use Rattle.vx_merge.proofs.Verdicts.{verdict_one}
+use Rattle.vx_frame.proofs.Verdicts.{verdict_one}
 use Rattle.vx_run.proofs.Once.{barred_once, ends_at_one, passes_or_barred, same_plan}
 use Rattle.vx_run.proofs.RegionRounds.{many_streams}
 

@@ -14,7 +14,7 @@ use Rattle.vx_assemble.specs.Held.{lent_by}
 use Rattle.vx_write.specs.declared.fault.WriteError.{WriteError}
 use Rattle.vx_write.specs.declared.fault.WriteError.TheVariants as errors
 use Rattle.vx_write.specs.declared.fault.WriteFirst.{WriteFirst}
-use Rattle.vx_merge.specs.declared.corner.Corner.{Corner}
+use Rattle.vx_frame.specs.declared.corner.Corner.{Corner}
 use Rattle.vx_merge.specs.Merging.{Merging, Stands}
 use Rattle.vx_play.specs.Scheduled.{Scheduled, HasMoved, HasStayed, files_of_region, regions_counted}
 use Rattle.vx_run.specs.declared.stop.Stop.{Stop}

@@ -16,7 +16,7 @@ use Rattle.vx_assemble.specs.Feed.{Feeding}
 use Rattle.vx_write.specs.declared.fault.WriteError.{WriteError}
 use Rattle.vx_write.specs.declared.fault.WriteError.TheVariants as errors
 use Rattle.vx_write.specs.declared.fault.WriteFirst.{WriteFirst}
-use Rattle.vx_merge.specs.declared.corner.Corner.{Corner}
+use Rattle.vx_frame.specs.declared.corner.Corner.{Corner}
 use Rattle.vx_merge.specs.Merging.{Merging, SameTask, Stands, Passes, IsBarred}
 use Rattle.vx_run.specs.declared.merge.Work.{Work}
 use Rattle.vx_run.specs.declared.merge.Work.TheVariants.{Check, Write}

@@ -3,7 +3,7 @@ use Rattle.std.specs.Prelude.{ℕ, List, reverse, take, None}
 use Rattle.vx_pic.specs.Readings.{Picture}
 use Rattle.vx_pic.specs.Rules.{Readers}
 use Rattle.vx_pic.specs.Bytes.{AreSourcePictures}
-use Rattle.vx_merge.specs.declared.corner.Corner.{Corner}
+use Rattle.vx_frame.specs.declared.corner.Corner.{Corner}
 use Rattle.vx_again.specs.Whole.{IsReadAsMerge}
 use Rattle.vx_run.specs.Rounds.{Stream}
 

@@ -17,9 +17,10 @@ use Rattle.vx_pic.specs.Parts.{Parts}
 use Rattle.vx_pic.specs.Written.{Plan, units_of}
 use Rattle.vx_run.specs.declared.stop.Place.{Place}
 use Rattle.vx_run.specs.declared.stop.Place.TheVariants as places
-use Rattle.vx_merge.specs.declared.corner.Corner.{Corner}
+use Rattle.vx_frame.specs.declared.corner.Corner.{Corner}
+use Rattle.vx_frame.specs.Corners.{AreCorners}
 use Rattle.vx_merge.specs.Joins.{after_end_of_sequence, JudgesJoin, IsBarredWhere}
-use Rattle.vx_merge.specs.Merging.{AreCorners, Passes}
+use Rattle.vx_merge.specs.Merging.{Passes}
 use Rattle.vx_play.specs.Scheduled.{files_of_region}
 use Rattle.vx_run.specs.declared.stop.Stop.TheVariants.{Refused, ReadFault, WriteFault, NoMemory}
 use Rattle.vx_run.specs.Change.{Change, Sources, source_at, IsUntouched, AreUntouched, HasNoFault, HasFault}

@@ -7,7 +7,7 @@ use Rattle.vx_pic.specs.Parts.{Parts, parts_of}
 use Rattle.vx_pic.specs.Readings.{Picture}
 use Rattle.vx_pic.specs.Rules.{Readers}
 use Rattle.vx_pic.specs.Units.{is_irap_or_gdr}
-use Rattle.vx_merge.specs.Rounds.{picture_at}
+use Rattle.vx_frame.specs.Rounds.{picture_at}
 use Rattle.vx_segments.specs.Whole.{StreamsBeginAnew}
 use Rattle.vx_segments.proofs.Sources.{head_of, there}
 

@@ -13,11 +13,11 @@ use Rattle.vx_pic.specs.Parts.{Parts}
 use Rattle.vx_pic.specs.Resident.{history_of, is_resident, kept_for, sent_before, units_written}
 use Rattle.vx_pic.specs.Units.{is_irap_or_gdr}
 use Rattle.vx_pic.specs.Written.{Plan, SetUnit, units_of}
-use Rattle.vx_merge.specs.declared.corner.Corner.{Corner}
+use Rattle.vx_frame.specs.declared.corner.Corner.{Corner}
+use Rattle.vx_frame.specs.Rounds.{picture_at}
+use Rattle.vx_frame.specs.Verdict.{IsVerdict, Rule}
 use Rattle.vx_merge.specs.Merging.{IsBarred, Passes}
 use Rattle.vx_merge.specs.Needed.{TakeIds}
-use Rattle.vx_merge.specs.Rounds.{picture_at}
-use Rattle.vx_merge.specs.Verdict.{IsVerdict, Rule}
 use Rattle.vx_merge.specs.Written.{IsMerged, limits_of, long_picture, long_stream, long_unit}
 use Rattle.vx_segments.specs.Segments.{AreWrittenInTurn, BarredAlike, BeginAnew, SegmentsJoin, SegmentsSplit, merge_of}
 

@@ -14,7 +14,7 @@ use Rattle.vx_ph.specs.Filter.{filter_of, set_ids, with_ids}
 use Rattle.vx_pic.specs.Inputs.{alf_of, bodies_of, body_of, named_body}
 use Rattle.vx_pic.specs.Parts.{Parts, aps_at}
 use Rattle.vx_pic.specs.Sets.{Slot, named, named_filters}
-use Rattle.vx_merge.specs.Bodies.{bodies_in}
+use Rattle.vx_frame.specs.Bodies.{bodies_in}
 use Rattle.vx_merge.proofs.FilterFields.{naming}
 use Rattle.vx_segments.specs.Alike.{HaveAlike}
 

@@ -8,9 +8,9 @@ use Rattle.vx_fields.specs.declared.ph.TheConstants as ph
 use Rattle.vx_fit.specs.Lowest.{IsLowest}
 use Rattle.vx_pic.specs.Parts.{Parts, SlicePart, read_of}
 use Rattle.vx_pic.specs.Sets.{filter_items, named}
-use Rattle.vx_merge.specs.Bodies.{filters_in, filters_of, lmcs_body, scaling_body}
-use Rattle.vx_merge.specs.Rounds.{SomeUnlike, SomeUnlikeFirst, UnlikeFirst, UnlikeLowest, picture_at}
-use Rattle.vx_merge.specs.Shapes.{of_lowest}
+use Rattle.vx_frame.specs.Bodies.{filters_in, filters_of, lmcs_body, scaling_body}
+use Rattle.vx_frame.specs.Rounds.{SomeUnlike, SomeUnlikeFirst, UnlikeFirst, UnlikeLowest, picture_at}
+use Rattle.vx_frame.specs.Shapes.{of_lowest}
 use Rattle.vx_segments.specs.Alike.{HaveAlike, IsReadAlike, slice_names}
 use Rattle.vx_segments.proofs.Naming.{back, filters_same, front, named_same}
 

@@ -14,14 +14,14 @@ use Rattle.vx_sps.specs.Set.{ctb_size_of}
 use Rattle.vx_sps.specs.Subpictures.{subpics_of}
 use Rattle.vx_pic.specs.Differences.{differing_field}
 use Rattle.vx_pic.specs.Parts.{Parts}
-use Rattle.vx_merge.specs.declared.corner.Corner.{Corner}
-use Rattle.vx_merge.specs.Bodies.{filters_in, has_lmcs, has_scaling, is_chroma_scaled, lmcs_body, once, scaling_body}
-use Rattle.vx_merge.specs.Collocated.{collocated}
-use Rattle.vx_merge.specs.Regions.{corners_in, ctb_of, layout_of, layouts_in, placed_at, placed_in}
-use Rattle.vx_merge.specs.Rounds.{UnlikeFirst, UnlikeLowest, picture_at}
-use Rattle.vx_merge.specs.Rules as merge
-use Rattle.vx_merge.specs.Slots.{alf_slots}
-use Rattle.vx_merge.specs.Verdict.{IsVerdict, Rule}
+use Rattle.vx_frame.specs.declared.corner.Corner.{Corner}
+use Rattle.vx_frame.specs.Bodies.{filters_in, has_lmcs, has_scaling, is_chroma_scaled, lmcs_body, once, scaling_body}
+use Rattle.vx_frame.specs.Collocated.{collocated}
+use Rattle.vx_frame.specs.Regions.{corners_in, ctb_of, layout_of, layouts_in, placed_at, placed_in}
+use Rattle.vx_frame.specs.Rounds.{UnlikeFirst, UnlikeLowest, picture_at}
+use Rattle.vx_frame.specs.Rules as merge
+use Rattle.vx_frame.specs.Counts.{alf_slots}
+use Rattle.vx_frame.specs.Verdict.{IsVerdict, Rule}
 use Rattle.vx_segments.proofs.Rounds.{AreAlike, Both, Plain, at, at_same, elsewhere, filters_respect, firsts, flats, lmcs_respects, lowest_of, maps, plainly, scaling_respects, some_unlike, unlike_first, unlike_lowest}
 
 -- ---- rules

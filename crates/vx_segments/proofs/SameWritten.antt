@@ -39,17 +39,18 @@ use Rattle.vx_pic.specs.Sets.{filter_items, signed, slice_qp}
 use Rattle.vx_pic.specs.UnderSets.{picture_header_of}
 use Rattle.vx_pic.specs.Written.{Plan, Set, SetUnit, a_pps, an_sps, units_of}
 use Rattle.vx_write.specs.Units.{IsSeiUnit}
-use Rattle.vx_merge.specs.declared.corner.Corner.{Corner}
-use Rattle.vx_merge.specs.Bodies.{filters_in, has_lmcs, has_scaling, is_chroma_scaled, lmcs_body, once, scaling_body}
+use Rattle.vx_frame.specs.declared.corner.Corner.{Corner}
+use Rattle.vx_frame.specs.Bodies.{filters_in, has_lmcs, has_scaling, is_chroma_scaled, lmcs_body, once, scaling_body, alf_bodies}
+use Rattle.vx_frame.specs.Regions.{corners_in, ctb_of, layouts_in, placed_in}
+use Rattle.vx_frame.specs.Rounds.{picture_at}
+use Rattle.vx_frame.specs.Rules.{crosses_slices, crosses_tiles, has_slices, has_tiles, of_limit}
+use Rattle.vx_frame.specs.Shapes.{IsFrame, frame_dpb, greatest, latency_of, least, frame_level, numbers_in_round, of_lowest, offsets_at, frame_pps_shape, frame_sps_shape, frame_window}
+use Rattle.vx_frame.specs.Counts.{alf_slots, lmcs_slots, scaling_slots}
+use Rattle.vx_frame.specs.Verdict.{IsVerdict}
 use Rattle.vx_merge.specs.Headers.{HasMergedHeader, IsMergedSlice, SaysSlice, filter_in, id_for, ph_shape, sourced}
 use Rattle.vx_merge.specs.Merging.{IsBarred, Passes}
-use Rattle.vx_merge.specs.Needed.{Ids, TakeIds, alf_bodies, aps_of_body, by_ids, id_of_body, lmcs_bodies, sets_of_round, scaling_bodies}
-use Rattle.vx_merge.specs.Regions.{corners_in, ctb_of, layouts_in, placed_in}
-use Rattle.vx_merge.specs.Rounds.{picture_at}
-use Rattle.vx_merge.specs.Rules.{crosses_slices, crosses_tiles, has_slices, has_tiles, of_limit}
-use Rattle.vx_merge.specs.Shapes.{IsFrame, frame_dpb, greatest, latency_of, least, frame_level, numbers_in_round, of_lowest, offsets_at, frame_pps_shape, frame_sps_shape, frame_window}
-use Rattle.vx_merge.specs.Slots.{TakeSlots, alf_slots, lmcs_slots, scaling_slots}
-use Rattle.vx_merge.specs.Verdict.{IsVerdict}
+use Rattle.vx_merge.specs.Needed.{Ids, TakeIds, aps_of_body, by_ids, id_of_body, lmcs_bodies, sets_of_round, scaling_bodies}
+use Rattle.vx_merge.specs.Slots.{TakeSlots}
 use Rattle.vx_merge.specs.Written.{IsMerged, limits_of, long_picture, long_unit}
 use Rattle.vx_segments.specs.Alike.{HaveAlike, slice_names}
 use Rattle.vx_segments.specs.Segments.{AreWrittenInTurn}

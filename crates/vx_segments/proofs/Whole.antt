@@ -5,7 +5,7 @@ use Rattle.vx_annexb.specs.ByteStream.{source_limit}
 use Rattle.vx_annexb.specs.Laws.{written}
 use Rattle.vx_pic.specs.Parts.{Parts}
 use Rattle.vx_pic.specs.Units.{is_irap_or_gdr}
-use Rattle.vx_merge.specs.Rounds.{picture_at}
+use Rattle.vx_frame.specs.Rounds.{picture_at}
 use Rattle.vx_segments.specs.Alike.{IsReadAlike}
 use Rattle.vx_segments.specs.Segments.{BeginAnew, merge_of}
 use Rattle.vx_segments.specs.Streams.{AreReadAlike, RoundsAreReadAlike}

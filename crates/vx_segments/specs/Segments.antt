@@ -9,9 +9,9 @@ use Rattle.vx_pic.specs.Parts.{Parts}
 use Rattle.vx_pic.specs.Resident.{units_written}
 use Rattle.vx_pic.specs.Units.{is_irap_or_gdr}
 use Rattle.vx_pic.specs.Written.{Plan}
-use Rattle.vx_merge.specs.declared.corner.Corner.{Corner}
+use Rattle.vx_frame.specs.declared.corner.Corner.{Corner}
+use Rattle.vx_frame.specs.Rounds.{picture_at}
 use Rattle.vx_merge.specs.Merging.{IsBarred, Passes}
-use Rattle.vx_merge.specs.Rounds.{picture_at}
 
 -- ---- rounds
 

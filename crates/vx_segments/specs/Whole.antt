@@ -9,7 +9,7 @@ use Rattle.vx_pic.specs.Readings.{Picture}
 use Rattle.vx_pic.specs.Rules.{Readers}
 use Rattle.vx_pic.specs.Resident.{units_written}
 use Rattle.vx_pic.specs.Written.{Plan}
-use Rattle.vx_merge.specs.declared.corner.Corner.{Corner}
+use Rattle.vx_frame.specs.declared.corner.Corner.{Corner}
 use Rattle.vx_merge.specs.Merging.{IsBarred}
 use Rattle.vx_segments.specs.Alike.{IsReadAlike}
 use Rattle.vx_segments.specs.Streams.{AreReadAlike, IsJoined, MakeRounds, CutStream}

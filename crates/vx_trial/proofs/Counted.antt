@@ -5,7 +5,7 @@ use Rattle.std.proofs.lemmas.List.FromFn.{length-map-range_with_len}
 use Rattle.vx_pic.specs.Parts.{parts_of}
 use Rattle.vx_pic.specs.Rules.{Readers}
 use Rattle.vx_extract.specs.Written.{IsExtraction}
-use Rattle.vx_merge.specs.declared.corner.Corner.{Corner}
+use Rattle.vx_frame.specs.declared.corner.Corner.{Corner}
 use Rattle.vx_gen.specs.Rounds.{corners, planned}
 use Rattle.vx_gen.specs.Streams.{generated}
 use Rattle.vx_trial.specs.declared.tally.Tally.{Tally}

@@ -15,7 +15,7 @@ use Rattle.vx_assemble.specs.Feed.{Feeding}
 use Rattle.vx_assemble.specs.Held.{HasPicture, lent_by}
 use Rattle.vx_write.specs.declared.fault.WriteError.{WriteError}
 use Rattle.vx_write.specs.declared.fault.WriteError.TheVariants as errors
-use Rattle.vx_merge.specs.declared.corner.Corner.{Corner}
+use Rattle.vx_frame.specs.declared.corner.Corner.{Corner}
 use Rattle.vx_merge.specs.Merging.{IsBarred, Merging, Passes, SameTask, Stands, WritesOneRound}
 use Rattle.vx_again.specs.Streams.{AreMerged, earlier, lasts}
 use Rattle.vx_gen.proofs.Making.{written_on}

@@ -10,7 +10,7 @@ use Rattle.vx_pic.specs.Resident.{units_written}
 use Rattle.vx_pic.specs.Rules.{Readers}
 use Rattle.vx_pic.specs.Written.{Plan}
 use Rattle.vx_extract.specs.Written.{IsExtraction}
-use Rattle.vx_merge.specs.declared.corner.Corner.{Corner}
+use Rattle.vx_frame.specs.declared.corner.Corner.{Corner}
 use Rattle.vx_again.specs.Streams.{AreMerged}
 use Rattle.vx_again.specs.Whole.{IsReadAsMerge}
 use Rattle.vx_gen.specs.Rounds.{corners}

@@ -6,7 +6,8 @@ ghost use Rattle.vx_pic.specs.Readings.{Picture};
 ghost use Rattle.vx_pic.specs.Rules.{Readers};
 ghost use Rattle.vx_pic.specs.Written.{Plan};
 ghost use Rattle.vx_assemble.specs.Held.{HasPicture, lent_by};
-ghost use Rattle.vx_merge.specs.Merging.{AreCorners, IsBarred, SameTask, Stands};
+ghost use Rattle.vx_frame.specs.Corners.{AreCorners};
+ghost use Rattle.vx_merge.specs.Merging.{IsBarred, SameTask, Stands};
 ghost use Rattle.vx_trial.specs.inner.Merges.{CanBeTried, HasMerged, IsMergeOf, IsWrittenOn, MayMerge};
 
 use crate::feeds::{feeds_over, next_pictures};

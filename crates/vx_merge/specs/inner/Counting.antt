@@ -4,17 +4,11 @@ use Rattle.vx_pic.specs.Parts.{Parts}
 use Rattle.vx_pic.specs.Written.{Plan, SetUnit, units_of}
 use Rattle.vx_write.specs.Slots.{Sent}
 use Rattle.vx_write.specs.declared.fault.WriteError.{WriteError}
-use Rattle.vx_merge.specs.declared.corner.Corner.{Corner}
+use Rattle.vx_frame.specs.declared.corner.Corner.{Corner}
 use Rattle.vx_merge.specs.declared.output.RoundUnits.{RoundUnits}
 use Rattle.vx_merge.specs.Joins.{WritesJoined, after_end_of_sequence}
 use Rattle.vx_merge.specs.Merging.{ChecksRound, Merging, Passes, Stands, WritesOneRound}
-use Rattle.vx_merge.specs.Verdict.{Rule}
-use Rattle.vx_merge.specs.inner.Found.{Tries}
 use Rattle.vx_merge.specs.inner.Making.{AreRoundUnits, units_made}
-
--- the verdict by some rules, where none is answered by nothing
-abbrev pub ChecksRules : ℕ → List Rule → Result (Unit {0}) WriteError → Type 0
-ChecksRules n rules = Tries n rules (λ x. Unit {0})
 
 -- this is all that is written of a round behind sets that were sent, and these are the last sets then
 abbrev pub AreUnitsOf : List Corner → Option ℕ → List Parts → List SetUnit → List Sent → RoundUnits → Type 0

@@ -23,11 +23,11 @@ use Rattle.vx_pic.specs.PictureLayout.{ids_of}
 use Rattle.vx_pic.specs.Readings.{Begun}
 use Rattle.vx_pic.specs.Sets.{filter_items, signed, slice_qp}
 use Rattle.vx_pic.specs.UnderSets.{picture_header_of}
+use Rattle.vx_frame.specs.Rounds.{picture_at}
 use Rattle.vx_merge.specs.declared.needed.NamedBodies.{NamedBodies}
 use Rattle.vx_merge.specs.declared.needed.RoundSets.{RoundSets}
 use Rattle.vx_merge.specs.Headers.{IsFront, ph_shape}
 use Rattle.vx_merge.specs.Needed.{id_of_body}
-use Rattle.vx_merge.specs.Rounds.{picture_at}
 use Rattle.vx_merge.specs.inner.Ready.{IsReadyAt, ids_in}
 
 -- ---- the filter of a slice

@@ -12,13 +12,13 @@ use Rattle.vx_pic.specs.Resident.{history_of, kept_for}
 use Rattle.vx_pic.specs.Rules.{picture_limit, unit_size}
 use Rattle.vx_pic.specs.Written.{Plan, SetUnit, eos_units, planned_slices, units_of}
 use Rattle.vx_write.specs.Slots.{AreLastOf, Sent}
-use Rattle.vx_merge.specs.declared.corner.Corner.{Corner}
+use Rattle.vx_frame.specs.declared.corner.Corner.{Corner}
+use Rattle.vx_frame.specs.Rounds.{picture_at}
+use Rattle.vx_frame.specs.Rules.{of_limit}
+use Rattle.vx_frame.specs.Verdict.{IsVerdict, Rule}
 use Rattle.vx_merge.specs.declared.needed.RoundSets.{RoundSets}
 use Rattle.vx_merge.specs.declared.output.RoundUnits.{RoundUnits}
 use Rattle.vx_merge.specs.Headers.{HasMergedHeader, IsFront, sourced}
-use Rattle.vx_merge.specs.Rounds.{picture_at}
-use Rattle.vx_merge.specs.Rules.{of_limit}
-use Rattle.vx_merge.specs.Verdict.{IsVerdict, Rule}
 use Rattle.vx_bits.specs.Codes.{AreBytes}
 use Rattle.vx_merge.specs.Written.{IsMerged}
 use Rattle.vx_merge.specs.inner.Ready.{ids_in}

@@ -6,16 +6,16 @@ use Rattle.vx_sps.specs.Reshaped as sps_reshaped
 use Rattle.vx_pps.specs.Reshaped as pps_reshaped
 use Rattle.vx_pic.specs.Parts.{Parts}
 use Rattle.vx_pic.specs.Written.{SetUnit}
-use Rattle.vx_merge.specs.declared.corner.Corner.{Corner}
+use Rattle.vx_frame.specs.declared.corner.Corner.{Corner}
+use Rattle.vx_frame.specs.Bodies.{has_lmcs, is_chroma_scaled, alf_bodies}
+use Rattle.vx_frame.specs.Rounds.{picture_at}
+use Rattle.vx_frame.specs.Rules.{rules_of}
+use Rattle.vx_frame.specs.Shapes.{of_lowest, frame_pps_shape, frame_sps_shape}
+use Rattle.vx_frame.specs.Counts.{pps_slots}
+use Rattle.vx_frame.specs.Verdict.{IsVerdict}
+use Rattle.vx_frame.specs.inner.Geometry.{HasShapes, MakeFrame}
 use Rattle.vx_merge.specs.declared.needed.RoundSets.{RoundSets}
-use Rattle.vx_merge.specs.Bodies.{has_lmcs, is_chroma_scaled}
-use Rattle.vx_merge.specs.Needed.{Ids, TakeIds, alf_bodies, lmcs_bodies, scaling_bodies}
-use Rattle.vx_merge.specs.Rounds.{picture_at}
-use Rattle.vx_merge.specs.Rules.{rules_of}
-use Rattle.vx_merge.specs.Shapes.{of_lowest, frame_pps_shape, frame_sps_shape}
-use Rattle.vx_merge.specs.Slots.{pps_slots}
-use Rattle.vx_merge.specs.Verdict.{IsVerdict}
-use Rattle.vx_merge.specs.inner.Geometry.{HasShapes, MakeFrame}
+use Rattle.vx_merge.specs.Needed.{Ids, TakeIds, lmcs_bodies, scaling_bodies}
 
 -- the ids that the sets take
 abbrev pub ids_in : RoundSets → Ids

@@ -10,10 +10,12 @@ use Rattle.vx_pic.specs.Parts.{Parts}
 use Rattle.vx_pic.specs.Written.{Set, SetUnit}
 use Rattle.vx_write.specs.Sending.{AreOthers}
 use Rattle.vx_write.specs.Slots.{AreLastOf, Sent}
+use Rattle.vx_frame.specs.Bodies.{alf_bodies}
+use Rattle.vx_frame.specs.Counts.{alf_slots, lmcs_slots, scaling_slots}
 use Rattle.vx_merge.specs.declared.needed.NamedBodies.{NamedBodies}
 use Rattle.vx_merge.specs.declared.needed.RoundSets.{RoundSets}
-use Rattle.vx_merge.specs.Needed.{alf_bodies, aps_of_body, by_ids, lmcs_bodies, scaling_bodies}
-use Rattle.vx_merge.specs.Slots.{TakeSlots, alf_slots, lmcs_slots, scaling_slots}
+use Rattle.vx_merge.specs.Needed.{aps_of_body, by_ids, lmcs_bodies, scaling_bodies}
+use Rattle.vx_merge.specs.Slots.{TakeSlots}
 use Rattle.vx_merge.specs.inner.Taking.{an_aps_of}
 
 -- ---- bodies

@@ -8,7 +8,7 @@ use Rattle.vx_annexb.specs.Laws.{written}
 use Rattle.vx_pic.specs.Written.{Plan, units_of}
 use Rattle.vx_assemble.specs.Feed.{Feeding}
 use Rattle.vx_write.specs.declared.fault.WriteError.{WriteError}
-use Rattle.vx_merge.specs.declared.corner.Corner.{Corner}
+use Rattle.vx_frame.specs.declared.corner.Corner.{Corner}
 use Rattle.vx_merge.specs.Merging.{Merging, Stands, ChecksRound, WritesOneRound}
 use Rattle.vx_run.specs.declared.merge.Work.{Work}
 use Rattle.vx_run.specs.declared.merge.Work.TheVariants.{Check, Write}

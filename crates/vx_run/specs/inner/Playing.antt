@@ -13,7 +13,7 @@ use Rattle.vx_run.specs.declared.stop.Place.{Place}
 use Rattle.vx_run.specs.declared.stop.Place.TheVariants as places
 use Rattle.vx_assemble.specs.Feed.{Feeding}
 use Rattle.vx_write.specs.declared.fault.WriteError.{WriteError}
-use Rattle.vx_merge.specs.declared.corner.Corner.{Corner}
+use Rattle.vx_frame.specs.declared.corner.Corner.{Corner}
 use Rattle.vx_merge.specs.Joins.{WritesJoined, after_end_of_sequence}
 use Rattle.vx_merge.specs.Merging.{Merging, Stands, WritesOneRound}
 use Rattle.vx_play.specs.Scheduled.{Scheduled, files_of_region, regions_counted}

@@ -3,7 +3,7 @@ use Rattle.std.specs.Prelude.{◌≡◌, ◌≢◌, ◌↔◌, ◌⊎◌, ℕ, �
 use Rattle.vx_pic.specs.H266.{AreOfH266}
 use Rattle.vx_pic.specs.Rules.{Readers}
 use Rattle.vx_pic.specs.Written.{Plan}
-use Rattle.vx_merge.specs.declared.corner.Corner.{Corner}
+use Rattle.vx_frame.specs.declared.corner.Corner.{Corner}
 use Rattle.vx_verify.specs.declared.spot.Spot.{Spot}
 use Rattle.vx_run.specs.Change.{Change, Sources, source_at, HasFault}
 use Rattle.vx_run.specs.Extract.{IsExtractable, WhereTold, task_of}

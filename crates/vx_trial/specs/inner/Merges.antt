@@ -11,7 +11,7 @@ use Rattle.vx_pic.specs.Resident.{units_written}
 use Rattle.vx_pic.specs.Rules.{Readers}
 use Rattle.vx_pic.specs.Written.{Plan, units_of}
 use Rattle.vx_assemble.specs.Feed.{Feeding}
-use Rattle.vx_merge.specs.declared.corner.Corner.{Corner}
+use Rattle.vx_frame.specs.declared.corner.Corner.{Corner}
 use Rattle.vx_merge.specs.Merging.{IsBarred, Merging, Passes, Stands}
 use Rattle.vx_again.specs.Streams.{AreMerged, lasts}
 use Rattle.vx_trial.specs.inner.Feeds.{Waits}

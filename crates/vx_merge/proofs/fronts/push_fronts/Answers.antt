@@ -1,11 +1,11 @@
 use Rattle.std.proofs.Common.{◌≡◌, ◌+◌, ◌<◌, ◌≤◌, ℕ, List, ◌++◌, Vec, Global, length, map, take, ap, sym, subst, ◌∙◌, arith}
 use Rattle.std.proofs.lemmas.List.{append-nil, take_all}
 use Rattle.vx_pic.specs.Parts.{Parts, SlicePart}
+use Rattle.vx_frame.specs.Rounds.{picture_at}
+use Rattle.vx_frame.proofs.Reading.{picture_read}
 use Rattle.vx_merge.specs.Headers.{IsFront}
-use Rattle.vx_merge.specs.Rounds.{picture_at}
 use Rattle.vx_merge.specs.inner.Fronts.{AreFronts}
 use Rattle.vx_merge.specs.inner.Ready.{ids_in}
-use Rattle.vx_merge.proofs.Reading.{picture_read}
 use Rattle.vx_merge.proofs.SliceFronts.{fronts_more}
 use Rattle.vx_merge.proofs.fronts.push_fronts.Goals as goal
 

@@ -1,7 +1,7 @@
 use Rattle.std.proofs.Common.{◌++◌, ℕ, List, map, take}
 use Rattle.vx_pic.specs.Parts.{SlicePart}
 use Rattle.vx_pic.specs.Readings.{Begun}
-use Rattle.vx_merge.specs.Rounds.{picture_at}
+use Rattle.vx_frame.specs.Rounds.{picture_at}
 use Rattle.vx_merge.specs.inner.Fronts.{AreFronts, IsBegun}
 use Rattle.vx_merge.proofs.fronts.push_fronts.Given as goal
 

@@ -3,11 +3,11 @@ use Rattle.std.specs.Prelude.{IfSome}
 use Rattle.vx_bits.specs.Codes.{EndsInNoZero}
 use Rattle.vx_write.specs.Units.{IsUnitOf}
 use Rattle.vx_pic.specs.Parts.{Parts, part_of}
+use Rattle.vx_frame.specs.Rounds.{picture_at}
+use Rattle.vx_frame.proofs.Reading.{picture_read}
 use Rattle.vx_merge.specs.Headers.{IsFront}
-use Rattle.vx_merge.specs.Rounds.{picture_at}
 use Rattle.vx_merge.specs.inner.Fronts.{HasShape}
 use Rattle.vx_merge.specs.inner.Ready.{ids_in}
-use Rattle.vx_merge.proofs.Reading.{picture_read}
 use Rattle.vx_merge.proofs.SliceFronts.{goes_at, is_front, is_shape, some_round}
 use Rattle.vx_merge.proofs.fronts.slice_front.Goals as goal
 

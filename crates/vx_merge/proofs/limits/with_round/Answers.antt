@@ -3,7 +3,7 @@ use Rattle.std.specs.Prelude.{option_to_list}
 use Rattle.std.specs.List.{AllByRecursion}
 use Rattle.vx_pic.specs.Written.{eos_units}
 use Rattle.vx_bits.specs.Codes.{AreBytes}
-use Rattle.vx_merge.proofs.Gathered.{all_both}
+use Rattle.vx_frame.proofs.Gathered.{all_both}
 use Rattle.vx_merge.proofs.Limiting.{eos_bytes}
 use Rattle.vx_merge.proofs.limits.with_round.Goals as goal
 

@@ -1,5 +1,5 @@
 use Rattle.std.proofs.Common.{◌<◌, arith}
-use Rattle.vx_merge.proofs.Gathered.{all_both}
+use Rattle.vx_frame.proofs.Gathered.{all_both}
 use Rattle.vx_merge.proofs.Limiting.{all_fit}
 use Rattle.vx_merge.proofs.limits.with_slice.Goals as goal
 

@@ -2,8 +2,8 @@ use Rattle.std.proofs.Common.{◌≤◌, ◌+◌, ◌++◌, length, ap, subst, �
 use Rattle.std.specs.List.{AllByRecursion}
 use Rattle.std.proofs.lemmas.List.{take_all}
 use Rattle.vx_bits.specs.Codes.{AreBytes}
+use Rattle.vx_frame.proofs.Gathered.{all_more}
 use Rattle.vx_merge.specs.inner.Making.{capped, size_of, slice_units}
-use Rattle.vx_merge.proofs.Gathered.{all_more}
 use Rattle.vx_merge.proofs.Limiting.{capped_more, slices_past}
 use Rattle.vx_merge.proofs.limits.with_slices.Goals as goal
 

@@ -1,7 +1,7 @@
 use Rattle.std.proofs.Common.{◌+◌, length, map, ap, subst, ◌∙◌}
 use Rattle.vx_bits.specs.Codes.{AreBytes}
+use Rattle.vx_frame.proofs.Gathered.{all_more}
 use Rattle.vx_merge.specs.inner.Making.{capped}
-use Rattle.vx_merge.proofs.Gathered.{all_more}
 use Rattle.vx_merge.proofs.Limiting.{capped_more, mapped_at}
 use Rattle.vx_merge.proofs.limits.with_units.Goals as goal
 

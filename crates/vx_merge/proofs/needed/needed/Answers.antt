@@ -2,13 +2,13 @@ use Rattle.std.proofs.Common.{◌≡◌, Bor, ℕ, List, length, ap, sym, subst,
 use Rattle.std.specs.List.{AllByRecursion}
 use Rattle.std.proofs.lemmas.List.{length-map}
 use Rattle.vx_write.proofs.Spelled.{pps_items, sps_items}
+use Rattle.vx_frame.specs.Rounds.{picture_at}
+use Rattle.vx_frame.specs.Shapes.{frame_pps_shape, frame_sps_shape}
+use Rattle.vx_frame.proofs.Passing.{filters_are, filters_few, not_too_many}
+use Rattle.vx_frame.proofs.Reading.{picture_read}
+use Rattle.vx_frame.proofs.SameSets.{some_used}
 use Rattle.vx_merge.specs.Needed.{Ids, TakeIds}
-use Rattle.vx_merge.specs.Rounds.{picture_at}
-use Rattle.vx_merge.specs.Shapes.{frame_pps_shape, frame_sps_shape}
 use Rattle.vx_merge.specs.inner.Sending.{CanEnd}
-use Rattle.vx_merge.proofs.Passing.{filters_are, filters_few, not_too_many}
-use Rattle.vx_merge.proofs.Reading.{picture_read}
-use Rattle.vx_merge.proofs.SameSets.{some_used}
 use Rattle.vx_merge.proofs.needed.needed.Goals as goal
 
 pub bounds-round-0 : goal.bounds-round-0

@@ -1,6 +1,6 @@
 use Rattle.std.proofs.Common.{false, ◌∙◌}
-use Rattle.vx_merge.specs.Bodies.{has_lmcs, is_chroma_scaled}
-use Rattle.vx_merge.proofs.Reading.{lowest_absent, lowest_read}
+use Rattle.vx_frame.specs.Bodies.{has_lmcs, is_chroma_scaled}
+use Rattle.vx_frame.proofs.Reading.{lowest_absent, lowest_read}
 use Rattle.vx_merge.proofs.needed.scales_chroma.Goals as goal
 
 pub returns-in-Some : goal.returns-in-Some

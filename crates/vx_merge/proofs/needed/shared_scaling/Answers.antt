@@ -1,6 +1,6 @@
 use Rattle.std.proofs.Common.{None, ◌∙◌}
-use Rattle.vx_merge.specs.Bodies.{has_scaling, scaling_body}
-use Rattle.vx_merge.proofs.Reading.{lowest_absent, lowest_read}
+use Rattle.vx_frame.specs.Bodies.{has_scaling, scaling_body}
+use Rattle.vx_frame.proofs.Reading.{lowest_absent, lowest_read}
 use Rattle.vx_merge.proofs.needed.shared_scaling.Goals as goal
 
 pub returns-in-Some : goal.returns-in-Some

@@ -1,12 +1,12 @@
 use Rattle.std.proofs.Common.{◌≡◌, ap, sym, ◌∙◌, subst}
 use Rattle.std.proofs.lemmas.Result.{IfOk-weaker}
 use Rattle.vx_ph.specs.Reshaped.{GoesUnder, IsReshapedPictureHeader, IsShape}
+use Rattle.vx_frame.specs.Rounds.{picture_at}
+use Rattle.vx_frame.proofs.Reading.{picture_read}
 use Rattle.vx_merge.specs.Headers.{ph_shape}
-use Rattle.vx_merge.specs.Rounds.{picture_at}
 use Rattle.vx_merge.specs.inner.Ready.{ids_in}
 use Rattle.vx_merge.proofs.KeptSame.{some_picture}
 use Rattle.vx_merge.proofs.OneHeader.{goes_under, is_shape}
-use Rattle.vx_merge.proofs.Reading.{picture_read}
 use Rattle.vx_merge.proofs.picture_header.picture_header.Goals as goal
 
 pub bounds-round-0 : goal.bounds-round-0

@@ -1,6 +1,6 @@
 use Rattle.std.proofs.Common.{Some, refl, sym, ap}
 use Rattle.vx_pic.specs.Readings.{Begun}
-use Rattle.vx_merge.specs.Rounds.{picture_at}
+use Rattle.vx_frame.specs.Rounds.{picture_at}
 use Rattle.vx_merge.specs.inner.Ready.{ids_in}
 use Rattle.vx_merge.proofs.OneHeader.{has_header, header_is}
 use Rattle.vx_merge.proofs.Planning.{some_round}

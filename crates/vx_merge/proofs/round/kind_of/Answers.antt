@@ -1,5 +1,5 @@
 use Rattle.std.proofs.Common.{◌<◌, length, ap, subst, ◌∙◌}
-use Rattle.vx_merge.proofs.Reading.{picture_read}
+use Rattle.vx_frame.proofs.Reading.{picture_read}
 use Rattle.vx_merge.proofs.round.kind_of.Goals as goal
 
 pub returns-clause-value : goal.returns-clause-value

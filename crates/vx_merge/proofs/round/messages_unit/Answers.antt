@@ -1,5 +1,5 @@
 use Rattle.std.proofs.Common.{ap, ◌∙◌}
-use Rattle.vx_merge.proofs.Reading.{picture_read}
+use Rattle.vx_frame.proofs.Reading.{picture_read}
 use Rattle.vx_merge.proofs.round.messages_unit.Goals as goal
 
 pub returns : goal.returns

@@ -1,6 +1,6 @@
 use Rattle.std.proofs.Common.{◌++◌, ap, sym, ◌∙◌}
+use Rattle.vx_frame.proofs.Gathered.{flat_read}
 use Rattle.vx_merge.specs.inner.Making.{payloads_in}
-use Rattle.vx_merge.proofs.Gathered.{flat_read}
 use Rattle.vx_merge.proofs.round.payloads.Goals as goal
 
 pub loop-k-preserved : goal.loop-k-preserved

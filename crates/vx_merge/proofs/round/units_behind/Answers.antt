@@ -3,11 +3,12 @@ use Rattle.vx_pic.specs.Resident.{kept_for}
 use Rattle.vx_pic.specs.Written.{a_pps}
 use Rattle.vx_write.specs.Slots.{pps_with_id}
 use Rattle.vx_write.proofs.Spelled.{pps_items}
-use Rattle.vx_merge.specs.Rounds.{picture_at}
-use Rattle.vx_merge.specs.Shapes.{frame_pps_shape}
-use Rattle.vx_merge.specs.Slots.{TakeSlots, pps_slots}
+use Rattle.vx_frame.specs.Rounds.{picture_at}
+use Rattle.vx_frame.specs.Shapes.{frame_pps_shape}
+use Rattle.vx_frame.specs.Counts.{pps_slots}
+use Rattle.vx_frame.proofs.SameSets.{some_used}
+use Rattle.vx_merge.specs.Slots.{TakeSlots}
 use Rattle.vx_merge.proofs.Planning.{kept_last}
-use Rattle.vx_merge.proofs.SameSets.{some_used}
 use Rattle.vx_merge.proofs.round.units_behind.Goals as goal
 
 pub kind_of-kind-requires : goal.kind_of-kind-requires

@@ -1,8 +1,9 @@
 use Rattle.std.proofs.Common.{ap}
 use Rattle.vx_pic.specs.Resident.{kept_for}
-use Rattle.vx_merge.specs.Rounds.{picture_at}
+use Rattle.vx_frame.specs.Rounds.{picture_at}
+use Rattle.vx_frame.proofs.SameSets.{frame_there, some_used}
 use Rattle.vx_merge.proofs.Planning.{count_of, is_made, payload_count}
-use Rattle.vx_merge.proofs.SameSets.{frame_there, needed_there, ready_for, some_used}
+use Rattle.vx_merge.proofs.ReadyFrame.{needed_there, ready_for}
 use Rattle.vx_merge.proofs.round.units_under.Goals as goal
 
 pub kind_of-kind-requires : goal.kind_of-kind-requires

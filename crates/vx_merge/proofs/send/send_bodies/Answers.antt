@@ -1,7 +1,7 @@
 use Rattle.std.proofs.Common.{◌≡◌, ◌++◌, Bor, ℕ, List, map, ◌∙◌, arith, append_assoc}
 use Rattle.vx_aps.specs.declared.aps.TheConstants as aps
+use Rattle.vx_frame.specs.Counts.{alf_slots, lmcs_slots, scaling_slots}
 use Rattle.vx_merge.specs.Needed.{by_ids}
-use Rattle.vx_merge.specs.Slots.{alf_slots, lmcs_slots, scaling_slots}
 use Rattle.vx_merge.proofs.Rising.{both_others, of_another}
 use Rattle.vx_merge.proofs.send.send_bodies.Goals as goal
 

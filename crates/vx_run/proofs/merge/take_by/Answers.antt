@@ -2,7 +2,7 @@ use Rattle.std.proofs.Common.{◌≡◌, ◌<◌, ◌∙◌, List, length, sym, 
 use Rattle.std.specs.Prelude.{All}
 use Rattle.vx_assemble.specs.Held.{HasPicture}
 use Rattle.vx_assemble.specs.Feed.{Feeding}
-use Rattle.vx_merge.specs.declared.corner.Corner.{Corner}
+use Rattle.vx_frame.specs.declared.corner.Corner.{Corner}
 use Rattle.std.proofs.lemmas.Result.{err_from_is_err_and}
 use Rattle.std.proofs.lemmas.Option.{slice_get_read}
 use Rattle.vx_pic.proofs.Existing.{there_are_readers}

@@ -1,6 +1,6 @@
 use Rattle.std.proofs.Common.{sym, subst}
 use Rattle.std.proofs.lemmas.Result.{err_from_is_err_and}
-use Rattle.vx_merge.specs.Merging.{AreCorners}
+use Rattle.vx_frame.specs.Corners.{AreCorners}
 use Rattle.vx_run.proofs.Working.{work_unmade}
 use Rattle.vx_run.proofs.merge.take_rounds.Goals as goal
 

@@ -1,7 +1,7 @@
 use Rattle.std.proofs.Common.{◌≡◌, List, ◌∙◌, Ok, Err, length, map, sym, ap, subst, arith}
 use Rattle.std.proofs.lemmas.Result.{err_from_is_err_and}
-use Rattle.vx_merge.specs.declared.corner.Corner.{Corner}
-use Rattle.vx_merge.specs.Merging.{AreCorners}
+use Rattle.vx_frame.specs.declared.corner.Corner.{Corner}
+use Rattle.vx_frame.specs.Corners.{AreCorners}
 use Rattle.vx_run.specs.declared.merge.Work.TheVariants.{Write}
 use Rattle.vx_run.specs.declared.stop.Stop.TheVariants.{NoMemory}
 use Rattle.vx_run.specs.Change.{change, sources_change}

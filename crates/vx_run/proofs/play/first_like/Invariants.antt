@@ -1,5 +1,5 @@
 use Rattle.std.proofs.Common.{◌≡◌, ◌<◌, ℕ, false, get_or, map}
-use Rattle.vx_merge.specs.declared.corner.Corner.{Corner}
+use Rattle.vx_frame.specs.declared.corner.Corner.{Corner}
 use Rattle.vx_run.specs.Grammar.{texts}
 use Rattle.vx_run.specs.Merge.{corners_of}
 use Rattle.vx_run.specs.Play.{is_corner}

@@ -1,7 +1,7 @@
 use Rattle.std.proofs.Common.{◌<◌, ◌≤◌, ◌∙◌, ℕ, List, Err, length, inl, inr, ap, map, refl, arith}
 use Rattle.std.proofs.lemmas.List.{length-map}
 use Rattle.std.proofs.lemmas.Result.{err_from_is_err_and}
-use Rattle.vx_merge.specs.declared.corner.Corner.{Corner}
+use Rattle.vx_frame.specs.declared.corner.Corner.{Corner}
 use Rattle.vx_run.specs.declared.stop.Stop.TheVariants.{NoMemory}
 use Rattle.vx_run.specs.Change.{change, sources_change}
 use Rattle.vx_run.specs.Grammar.{texts}

@@ -4,7 +4,7 @@ use Rattle.std.proofs.lemmas.List.{length-replicate}
 use Rattle.std.proofs.lemmas.Result.{err_from_is_err_and}
 use Rattle.vx_assemble.specs.Feed.{Feeding}
 use Rattle.vx_assemble.specs.Held.{HasPicture}
-use Rattle.vx_merge.specs.declared.corner.Corner.{Corner}
+use Rattle.vx_frame.specs.declared.corner.Corner.{Corner}
 use Rattle.vx_pic.proofs.Existing.{there_are_readers}
 use Rattle.vx_play.specs.Scheduled.{Scheduled, regions_counted}
 use Rattle.vx_run.proofs.Playing.{advance_below, advance_done, advance_holds, advance_stops, play_unmade, round_goes, round_stops}

@@ -1,8 +1,8 @@
 use Rattle.std.proofs.Common.{◌≡◌, ◌∙◌, ℕ, List, Option, None, length, sym, ap, subst, arith, refl}
 use Rattle.std.specs.Prelude.{replicate}
 use Rattle.std.proofs.lemmas.Result.{err_from_is_err_and}
-use Rattle.vx_merge.specs.declared.corner.Corner.{Corner}
-use Rattle.vx_merge.specs.Merging.{AreCorners}
+use Rattle.vx_frame.specs.declared.corner.Corner.{Corner}
+use Rattle.vx_frame.specs.Corners.{AreCorners}
 use Rattle.vx_play.specs.Scheduled.{Scheduled, regions_counted}
 use Rattle.vx_run.specs.Change.{change, sources_change}
 use Rattle.vx_run.specs.inner.Playing.{PlaysRounds}

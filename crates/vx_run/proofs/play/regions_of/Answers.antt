@@ -1,5 +1,5 @@
 use Rattle.std.proofs.Common.{◌<◌, ◌≤◌, ◌∙◌, List, [], get_or, length, sym, ap, subst, arith}
-use Rattle.vx_merge.specs.declared.corner.Corner.{Corner}
+use Rattle.vx_frame.specs.declared.corner.Corner.{Corner}
 use Rattle.vx_run.specs.Play.{with_corners}
 use Rattle.vx_run.specs.Rounds.{most_sources}
 use Rattle.vx_run.specs.inner.Playing.{HasFound}

@@ -1,7 +1,7 @@
 -- A merge of all rounds.
 use Rattle.std.proofs.Common.{◌≡◌, ◌∙◌, List, [], ap, subst}
 use Rattle.vx_io.specs.Memory.{Growth}
-use Rattle.vx_merge.specs.declared.corner.Corner.{Corner}
+use Rattle.vx_frame.specs.declared.corner.Corner.{Corner}
 use Rattle.vx_trial.specs.inner.Merges.{IsMergeOf}
 use Rattle.vx_trial.proofs.Fed.{all_wait}
 use Rattle.vx_trial.proofs.Rounds.{begins, ends}

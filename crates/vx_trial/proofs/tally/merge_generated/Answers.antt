@@ -2,8 +2,8 @@
 use Rattle.std.proofs.Common.{◌∙◌, List, subst, sym}
 use Rattle.std.proofs.lemmas.Result.{IfOk-weaker}
 use Rattle.vx_io.specs.Memory.{Growth}
-use Rattle.vx_merge.specs.declared.corner.Corner.{Corner}
-use Rattle.vx_merge.specs.Merging.{AreCorners}
+use Rattle.vx_frame.specs.declared.corner.Corner.{Corner}
+use Rattle.vx_frame.specs.Corners.{AreCorners}
 use Rattle.vx_gen.proofs.InOrder.{corners_there}
 use Rattle.vx_trial.specs.inner.Laws.{sources_of}
 use Rattle.vx_trial.specs.inner.Merges.{IsMergeOf}

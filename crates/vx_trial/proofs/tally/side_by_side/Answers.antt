@@ -1,7 +1,7 @@
 -- One more corner.
 use Rattle.std.proofs.Common.{◌++◌, ◌∷◌, [], ◌*◌, ◌∙◌, ℕ, List, ap, sym, arith}
 use Rattle.std.proofs.lemmas.List.FromFn.{map-range_with_len_more}
-use Rattle.vx_merge.specs.declared.corner.Corner.{Corner}
+use Rattle.vx_frame.specs.declared.corner.Corner.{Corner}
 use Rattle.vx_trial.proofs.tally.side_by_side.Goals as goal
 
 pub loop-k-preserved : goal.loop-k-preserved

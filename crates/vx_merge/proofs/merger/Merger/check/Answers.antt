@@ -1,5 +1,6 @@
 use Rattle.std.proofs.Common.{Some, map, refl, sym, ap, subst, length, ◌∙◌}
-use Rattle.vx_merge.specs.Merging.{AreCorners, Merging, Stands}
+use Rattle.vx_frame.specs.Corners.{AreCorners}
+use Rattle.vx_merge.specs.Merging.{Merging, Stands}
 use Rattle.vx_merge.specs.inner.Progress.{IsProgress, merging_of}
 use Rattle.vx_merge.proofs.Writing.{checks_stopped}
 use Rattle.vx_merge.proofs.merger.Merger.check.Goals as goal

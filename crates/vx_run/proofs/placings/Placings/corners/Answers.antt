@@ -1,6 +1,6 @@
 use Rattle.std.proofs.Common.{◌≡◌, ◌≤◌, ◌++◌, ◌∷◌, [], ◌∙◌, List, length, ap, arith}
 use Rattle.std.proofs.Math.Seq.{take_all}
-use Rattle.vx_merge.specs.declared.corner.Corner.{Corner}
+use Rattle.vx_frame.specs.declared.corner.Corner.{Corner}
 use Rattle.vx_run.specs.Merge.{corner_of, corners_of}
 use Rattle.vx_run.specs.inner.Placings.{placed, spelled}
 use Rattle.vx_run.proofs.Corners.{many_corners}

@@ -1,0 +1,19 @@
+-- Lemmas of this crate.
+pub mod Copying
+pub mod Deciding
+pub mod Deltas
+pub mod Differing
+pub mod Edging
+pub mod Fitted
+pub mod FrameShaping
+pub mod Framing
+pub mod Gathered
+pub mod InitQp
+pub mod Joining
+pub mod Layouts
+pub mod Passing
+pub mod Reading
+pub mod SameSets
+pub mod Sized
+pub mod Sources
+pub mod Verdicts

@@ -1,0 +1,36 @@
+//! What the rules on pictures, and what is sent, need of the adaptation parameter sets of a round, found once.
+ghost use Rattle.std.specs.Prelude.{◌≤◌, length, IfOk};
+ghost use Rattle.vx_frame.specs.inner.Gathered.{AreGathered};
+
+use crate::filters::{RoundFilters, round_filters};
+use crate::headers::{lowest_with_lmcs, lowest_with_scaling};
+use std::alloc::{AllocError, Global};
+use vx_pic::Picture;
+
+/// What the pictures of a round have of adaptation parameter sets.
+#[derive(Drop)]
+pub struct RoundBodies<'a> {
+    /// The adaptive loop filters in force in slices.
+    pub filters: RoundFilters<'a>,
+    /// The lowest source whose header has luma mapping with chroma scaling.
+    pub lmcs: Option<u16>,
+    /// The lowest source whose header has scaling lists.
+    pub scaling: Option<u16>,
+}
+
+/// What the pictures of a round have of adaptation parameter sets.
+///
+/// # Errors
+///
+/// Want of memory.
+pub fn round_bodies<'a>(alloc: Global, round: &[Picture<'a>]) -> Result<RoundBodies<'a>, AllocError>
+    requires { length round.now ≤ 64 }
+    ensures { IfOk result (AreGathered round.now) }
+{
+    let filters = round_filters(alloc, round)?;
+    Ok(RoundBodies {
+        filters,
+        lmcs: lowest_with_lmcs(round),
+        scaling: lowest_with_scaling(round),
+    })
+}

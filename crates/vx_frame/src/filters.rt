@@ -1,0 +1,149 @@
+//! The bodies of adaptive loop filters that slices have in force.
+ghost use Rattle.std.specs.Prelude.{◌≡◌, ◌<◌, ◌≤◌, ◌∷◌, [], List, length, map, option_copied, option_to_list, IfOk, OnOk};
+ghost use Rattle.std.specs.Bool.{OnTrue, OnFalse};
+ghost use Rattle.vx_pic.specs.Parts.{Parts};
+ghost use Rattle.vx_pic.specs.Resident as resident;
+ghost use Rattle.vx_frame.specs.Bodies as words;
+ghost use Rattle.vx_frame.specs.Rules as rules;
+ghost use Rattle.vx_frame.specs.Counts.{alf_slots};
+ghost use Rattle.vx_frame.specs.inner.Found.{Finds, piece_at};
+ghost use Rattle.vx_frame.specs.inner.Gathered.{AreFilters};
+
+use crate::told::of_source;
+use std::alloc::{AllocError, Global};
+use vx_bits::rules::TOO_MANY_ALF;
+use vx_bits::{BodyList, Refusal};
+use vx_pic::{Picture, alf_in_force};
+
+/// The ids of adaptive loop filters.
+const MOST_FILTERS: usize = 8;
+
+/// The bodies of the adaptive loop filters in force in the slices of a round, as far as they were gathered.
+#[derive(Drop)]
+pub struct RoundFilters<'a> {
+    /// Each once: those of all sources, or up to the lowest source with which there are too many.
+    pub bodies: BodyList<'a>,
+    /// That source, where there are more of them than ids.
+    pub too_many: Option<u16>,
+}
+
+/// Whether two byte strings are the same.
+pub fn same_bytes(a: &[u8], b: &[u8]) -> bool
+    ensures { result ≡ resident.same_bytes a.now b.now }
+{
+    a == b
+}
+
+/// Whether a body is among others.
+fn is_among(body: &[u8], bodies: &BodyList<'_>) -> bool
+    ensures { result ≡ words.is_among body.now (map (λ b. b.now) bodies.now) }
+{
+    for i in 0..bodies.len() {
+        if same_bytes(bodies.item(i), body) {
+            return true;
+        }
+    }
+    false
+}
+
+/// Adds a body, where it isn't among them.
+fn add<'a>(bodies: &mut BodyList<'a>, body: &'a [u8]) -> Result<(), AllocError>
+    ensures { OnOk result (map (λ b. b.now) bodies.new ≡ words.with_body (map (λ b. b.now) bodies.old) body.now) }
+{
+    if is_among(body, bodies) {
+        return Ok(());
+    }
+    bodies.push(body)
+}
+
+/// Adds a body, where there is one.
+fn add_some<'a>(bodies: &mut BodyList<'a>, body: Option<&'a [u8]>) -> Result<(), AllocError>
+    ensures { OnOk result (map (λ b. b.now) bodies.new ≡ words.with_bodies (map (λ b. b.now) bodies.old) (option_to_list (option_copied body.entry))) }
+{
+    match body {
+        Some(body) => add(bodies, body),
+        None => Ok(()),
+    }
+}
+
+/// Adds each of some bodies.
+fn add_all<'a>(bodies: &mut BodyList<'a>, more: &BodyList<'a>) -> Result<(), AllocError>
+    ensures { OnOk result (map (λ b. b.now) bodies.new ≡ words.with_bodies (map (λ b. b.now) bodies.old) (map (λ b. b.now) more.now)) }
+{
+    for i in 0..more.len() {
+        add(bodies, more.item(i))?;
+    }
+    Ok(())
+}
+
+/// Adds those of a slice.
+fn add_slice<'a>(
+    alloc: Global,
+    bodies: &mut BodyList<'a>,
+    picture: &Picture<'a>,
+    i: u32,
+) -> Result<(), AllocError>
+    requires { i < length picture.now.slices }
+    ensures { OnOk result (map (λ b. b.now) bodies.new ≡ words.with_bodies (map (λ b. b.now) bodies.old) (piece_at (words.filters_of picture.now) picture.now.slices i)) }
+{
+    let slice = picture.slice(i);
+    let alf = alf_in_force(alloc, picture, slice.header)?;
+    add_all(bodies, &alf.luma)?;
+    add_some(bodies, alf.chroma)?;
+    add_some(bodies, alf.cc_cb)?;
+    add_some(bodies, alf.cc_cr)?;
+    Ok(())
+}
+
+/// Adds those of a picture's slices.
+fn add_picture<'a>(
+    alloc: Global,
+    bodies: &mut BodyList<'a>,
+    picture: &Picture<'a>,
+) -> Result<(), AllocError>
+    ensures { OnOk result (map (λ b. b.now) bodies.new ≡ words.with_bodies (map (λ b. b.now) bodies.old) (words.filters_in picture.now)) }
+{
+    for i in 0..picture.slice_count() {
+        add_slice(alloc, bodies, picture, i)?;
+    }
+    Ok(())
+}
+
+/// Whether there are more of these than ids.
+fn are_too_many(bodies: &BodyList<'_>) -> bool
+    ensures many { OnTrue result (alf_slots < length bodies.now) }
+    ensures few { OnFalse result (¬ (alf_slots < length bodies.now)) }
+{
+    MOST_FILTERS < bodies.len()
+}
+
+/// The bodies of the adaptive loop filters in force in the slices of a round.
+pub(crate) fn round_filters<'a>(
+    alloc: Global,
+    round: &[Picture<'a>],
+) -> Result<RoundFilters<'a>, AllocError>
+    requires { length round.now ≤ 64 }
+    ensures { IfOk result (AreFilters round.now) }
+{
+    let mut bodies = BodyList::new(alloc);
+    for k in 0..round.len() {
+        add_picture(alloc, &mut bodies, &round[k])?;
+        if are_too_many(&bodies) {
+            return Ok(RoundFilters {
+                bodies,
+                too_many: Some(k as u16),
+            });
+        }
+    }
+    Ok(RoundFilters {
+        bodies,
+        too_many: None,
+    })
+}
+
+/// Whether the slices of a round with these filters have more bodies of adaptive loop filters than there are ids.
+pub(crate) fn too_many_filters(filters: &RoundFilters<'_>) -> Option<Refusal>
+    ensures { (round : List Parts) → AreFilters round filters.now → Finds (length round) (rules.too_many_filters round ∷ []) result }
+{
+    of_source(TOO_MANY_ALF, filters.too_many)
+}

@@ -1,0 +1,309 @@
+//! The frame of a round: what is made of its sets alone, and kept for rounds with the same sets.
+ghost use Rattle.std.specs.Prelude.{◌≡◌, ◌≢◌, ◌<◌, All, List, Option, ℕ, length, map, IfOk, IfSome, OnOk};
+ghost use Rattle.std.specs.Bool.{OnTrue};
+ghost use Rattle.vx_layout.specs.Faults.{IsInLimits, IsLayout};
+ghost use Rattle.vx_write.specs.InForce.{AreInForce};
+ghost use Rattle.vx_frame.specs.declared.corner.Corner.{Corner as AnyCorner};
+ghost use Rattle.vx_frame.specs.Corners.{AreCorners};
+ghost use Rattle.vx_frame.specs.Rules.{rules_of_sets};
+ghost use Rattle.vx_frame.specs.inner.Found.{Tries};
+ghost use Rattle.vx_frame.specs.inner.Frames as words;
+ghost use Rattle.vx_frame.specs.inner.Frames.{AreSetsOf, HasPps, HasSetsOf, IsFrameOf, IsKeptFrame, IsPpsFor, IsRoundFrame, IsSomeKept, IsSomeRound, IsSomeUsed, IsSpsFor, ServesAs};
+ghost use Rattle.vx_frame.specs.inner.Geometry.{IsRoundGeometry, IsSomeGeometry, OfGeometry};
+
+use crate::corner::Corner;
+use crate::frame_sets::{copied_numbers, frame_pps, frame_sps};
+use crate::geometry::{FrameGeometry, frame_geometry};
+use crate::items::same_items;
+use crate::regions::too_many_slices;
+use std::alloc::{AllocError, Global};
+use vx_bits::Fields;
+use vx_layout::{Layout, LayoutError};
+use vx_pic::Picture;
+use vx_pps::Pps;
+use vx_sps::Sps;
+use vx_write::{WriteError, copied, sets_in_force};
+
+/// The items of the sets of a source's picture.
+#[derive(Drop)]
+pub(crate) struct SourceSets {
+    /// Of the SPS.
+    pub(crate) sps: Fields,
+    /// Of the PPS.
+    pub(crate) pps: Fields,
+}
+
+/// The frame's PPS with another id than 0.
+#[derive(Drop)]
+pub(crate) struct RenamedPps {
+    /// Its id.
+    pub(crate) id: u8,
+    /// The PPS.
+    pub(crate) pps: Pps,
+}
+
+/// The frame of a round, made of its sets alone: kept as long as these stay.
+#[derive(Drop)]
+pub struct Frame {
+    /// The sets of each source.
+    pub(crate) sources: Vec<SourceSets>,
+    /// Its geometry.
+    pub geometry: FrameGeometry,
+    /// Its layout.
+    pub layout: Layout,
+    /// Its SPS, of id 0.
+    pub sps: Sps,
+    /// Its PPS with the id 0.
+    pub plain: Pps,
+    /// Its PPS with the last other id that it took.
+    pub(crate) renamed: Option<RenamedPps>,
+}
+
+/// What there is of the frame of a round whose sets break no rule on them.
+#[derive(Drop)]
+pub(crate) enum RoundFrame {
+    /// It was kept, and made of the same sets.
+    Kept(Box<Frame>),
+    /// It is new, and has this geometry.
+    New(FrameGeometry),
+}
+
+// ---- the sets of a round
+
+/// The sets of a picture.
+fn sets_of(alloc: Global, picture: &Picture<'_>) -> Result<SourceSets, AllocError>
+    requires { AreInForce picture.now }
+    ensures { IfOk result (λ own. words.sets_in own ≡ words.sets_of picture.now) }
+{
+    let sps = copied(alloc, picture.sps().fields())?;
+    let pps = copied(alloc, picture.pps().fields())?;
+    Ok(SourceSets { sps, pps })
+}
+
+/// The sets of each picture.
+fn sources(alloc: Global, round: &[Picture<'_>]) -> Result<Vec<SourceSets>, AllocError>
+    requires { All AreInForce round.now }
+    ensures { IfOk result (λ own. AreSetsOf round.now own.items) }
+{
+    let mut sources = Vec::new(alloc);
+    for k in 0..round.len() {
+        sources.push(sets_of(alloc, &round[k])?)?;
+    }
+    Ok(sources)
+}
+
+/// Whether a picture has these sets.
+fn has_sets(picture: &Picture<'_>, own: &SourceSets) -> bool
+    ensures same { OnTrue result (words.sets_in own.now ≡ words.sets_of picture.now) }
+    ensures sets { AreInForce picture.now }
+{
+    // It reads nothing: what is known of a picture is told by its calls alone.
+    sets_in_force(picture);
+    if !same_items(&own.sps, picture.sps().fields()) {
+        return false;
+    }
+    if !same_items(&own.pps, picture.pps().fields()) {
+        return false;
+    }
+    true
+}
+
+/// Whether the pictures of a round have these sets.
+fn have_sets(round: &[Picture<'_>], sources: &[SourceSets]) -> bool
+    requires { length sources.now ≡ length round.now }
+    ensures same { OnTrue result (AreSetsOf round.now sources.now) }
+    ensures sets { OnTrue result (All AreInForce round.now) }
+{
+    for k in 0..round.len() {
+        if !has_sets(&round[k], &sources[k]) {
+            return false;
+        }
+    }
+    true
+}
+
+// ---- what the rules on sets leave
+
+/// A new frame.
+fn new_frame(
+    alloc: Global,
+    corners: &[Corner],
+    round: &[Picture<'_>],
+) -> Result<RoundFrame, WriteError>
+    requires corners { AreCorners corners.now }
+    requires same { length corners.now ≡ length round.now }
+    ensures { (level : Option ℕ) → Tries (length round.now) (rules_of_sets corners.now round.now) (IsRoundFrame corners.now level round.now) result }
+{
+    let geometry = frame_geometry(alloc, corners, round)?;
+    Ok(RoundFrame::New(geometry))
+}
+
+/// The frame of a round: the one that was kept, where it was made of the same sets, or else a new one.
+///
+/// # Errors
+///
+/// The first rule that the sets break, or want of memory.
+pub(crate) fn round_frame(
+    alloc: Global,
+    corners: &[Corner],
+    kept: Option<Box<Frame>>,
+    round: &[Picture<'_>],
+) -> Result<RoundFrame, WriteError>
+    requires corners { AreCorners corners.now }
+    requires same { length corners.now ≡ length round.now }
+    requires kept { IfSome kept (λ f. IsSomeKept corners.now f.value) }
+    ensures { (level : Option ℕ) → IfSome kept (λ f. IsKeptFrame corners.now level f.value)
+        → Tries (length round.now) (rules_of_sets corners.now round.now) (IsRoundFrame corners.now level round.now) result }
+{
+    let Some(frame) = kept else {
+        return new_frame(alloc, corners, round);
+    };
+    if !have_sets(round, frame.sources.as_slice()) {
+        return new_frame(alloc, corners, round);
+    }
+    if let Some(refusal) = too_many_slices(round) {
+        return Err(WriteError::Refused(refusal));
+    }
+    Ok(RoundFrame::Kept(frame))
+}
+
+// ---- what is made of them
+
+/// The layout of a frame.
+fn layout_of(alloc: Global, geometry: &FrameGeometry) -> Result<Layout, AllocError>
+    requires layout { IsLayout geometry.now.numbers }
+    requires limits { IsInLimits geometry.now.numbers }
+    ensures { IfOk result (λ layout. layout ≡ geometry.now.numbers) }
+{
+    let numbers = copied_numbers(alloc, &geometry.numbers)?;
+    match Layout::new(alloc, numbers) {
+        Ok(layout) => Ok(layout),
+        Err(LayoutError::Memory) => Err(AllocError),
+        Err(LayoutError::Fault(_)) => unreachable!(),
+    }
+}
+
+/// The SPS of a frame, at a level, or at the highest of its pictures, and its PPS with the id 0.
+fn sets_for(
+    alloc: Global,
+    round: &[Picture<'_>],
+    geometry: &FrameGeometry,
+    level: Option<u8>,
+) -> Result<(Sps, Pps), AllocError>
+    requires { IsSomeGeometry round.now geometry.now }
+    ensures sps { IfOk result (λ sets. OfGeometry round.now geometry.now (λ corners. IsSpsFor corners round.now level sets.0)) }
+    ensures pps { IfOk result (λ sets. OfGeometry round.now geometry.now (λ corners. IsPpsFor corners round.now geometry.now.numbers 0 sets.1)) }
+{
+    let sps = frame_sps(alloc, round, geometry, level)?;
+    let pps = frame_pps(alloc, round, geometry, 0)?;
+    Ok((sps, pps))
+}
+
+/// The frame with a geometry.
+#[cold]
+#[inline(never)]
+fn frame_with(
+    alloc: Global,
+    level: Option<u8>,
+    geometry: FrameGeometry,
+    round: &[Picture<'_>],
+) -> Result<Box<Frame>, AllocError>
+    requires { (corners : List AnyCorner) × IsRoundGeometry corners round.now geometry }
+    ensures { (corners : List AnyCorner) → IsRoundGeometry corners round.now geometry → IfOk result (λ f. IsFrameOf corners level round.now f.value) }
+{
+    let sources = sources(alloc, round)?;
+    let layout = layout_of(alloc, &geometry)?;
+    let (sps, plain) = sets_for(alloc, round, &geometry, level)?;
+    let frame = Frame {
+        sources,
+        geometry,
+        layout,
+        sps,
+        plain,
+        renamed: None,
+    };
+    Ok(Box::new(alloc, frame)?)
+}
+
+/// The frame of a round.
+pub(crate) fn whole_frame(
+    alloc: Global,
+    level: Option<u8>,
+    frame: RoundFrame,
+    round: &[Picture<'_>],
+) -> Result<Box<Frame>, AllocError>
+    requires { IsSomeRound level round.now frame }
+    ensures { (corners : List AnyCorner) → IsRoundFrame corners level round.now frame → IfOk result (λ f. IsFrameOf corners level round.now f.value) }
+{
+    match frame {
+        RoundFrame::Kept(frame) => Ok(frame),
+        RoundFrame::New(geometry) => frame_with(alloc, level, geometry, round),
+    }
+}
+
+// ---- its PPS under an id
+
+/// Whether this is the PPS with an id.
+fn is_renamed(renamed: &Option<RenamedPps>, id: u8) -> bool
+    ensures { result ≡ words.is_renamed renamed.now id }
+{
+    match renamed {
+        Some(renamed) => renamed.id == id,
+        None => false,
+    }
+}
+
+/// Makes its PPS under an id.
+#[cold]
+#[inline(never)]
+fn rename_pps(
+    alloc: Global,
+    frame: &mut Frame,
+    round: &[Picture<'_>],
+    id: u8,
+) -> Result<(), AllocError>
+    requires used { IsSomeUsed round.now frame.old }
+    requires id { id < 64 }
+    requires other { id ≢ 0 }
+    ensures same { OnOk result (ServesAs round.now frame.old frame.new) }
+    ensures pps { OnOk result (HasPps round.now id frame.new) }
+{
+    let pps = frame_pps(alloc, round, &frame.geometry, id)?;
+    frame.renamed = Some(RenamedPps { id, pps });
+    Ok(())
+}
+
+/// Has a frame's PPS under an id, made anew unless it is there.
+///
+/// # Errors
+///
+/// Want of memory.
+pub fn have_pps(
+    alloc: Global,
+    frame: &mut Frame,
+    round: &[Picture<'_>],
+    id: u8,
+) -> Result<(), AllocError>
+    requires used { IsSomeUsed round.now frame.old }
+    requires id { id < 64 }
+    ensures same { OnOk result (ServesAs round.now frame.old frame.new) }
+    ensures pps { OnOk result (HasPps round.now id frame.new) }
+{
+    if id == 0 || is_renamed(&frame.renamed, id) {
+        return Ok(());
+    }
+    rename_pps(alloc, frame, round, id)
+}
+
+/// A frame's PPS under an id that it has.
+pub fn pps_under(frame: &Frame, id: u8) -> &Pps
+    ensures { result.now ≡ words.pps_under frame.now id }
+{
+    if id == 0 {
+        return &frame.plain;
+    }
+    match &frame.renamed {
+        Some(renamed) => &renamed.pps,
+        None => &frame.plain,
+    }
+}

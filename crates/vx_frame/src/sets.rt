@@ -1,0 +1,225 @@
+//! The rules on parameter sets.
+ghost use Rattle.std.specs.Prelude.{◌≡◌, ◌<◌, ◌≤◌, ◌∷◌, [], length, IfOk};
+ghost use Rattle.std.specs.Option.{option_or};
+ghost use Rattle.vx_fit.specs.Lowest.{IsLowestAnswer};
+ghost use Rattle.vx_sps.specs.Subpictures.{subpics_of};
+ghost use Rattle.vx_pic.specs.Differences as differences;
+ghost use Rattle.vx_pic.specs.Inputs as inputs;
+ghost use Rattle.vx_frame.specs.Rounds.{picture_at};
+ghost use Rattle.vx_frame.specs.Rules as rules;
+ghost use Rattle.vx_frame.specs.inner.Found.{Finds, IsLowestField, TellsField};
+ghost use Rattle.vx_frame.specs.inner.Tools as tools;
+
+use crate::told::{Differing, of_field, of_source};
+use std::alloc::{AllocError, Global};
+use vx_bits::rules::{PPS_TOOLS, SEVERAL_SUBPICTURES, SPS_TOOLS};
+use vx_bits::{Fields, Refusal};
+use vx_fields::ptl::{
+    general_profile_idc, general_tier_flag, ptl_frame_only_constraint_flag,
+    ptl_multilayer_enabled_flag,
+};
+use vx_pic::{Picture, differing_field};
+use vx_pps::{Pps, keep_pps};
+use vx_sps::{Sps, keep_sps};
+use vx_write::same_items;
+
+/// The fields of a profile that sources have to share: profile, tier, and whether there are frames alone and one layer alone.
+const PROFILE: [u16; 4] = [
+    general_profile_idc,
+    general_tier_flag,
+    ptl_frame_only_constraint_flag,
+    ptl_multilayer_enabled_flag,
+];
+
+// ---- several subpictures
+
+/// The lowest source with several subpictures.
+fn lowest_several(round: &[Picture<'_>]) -> Option<u16>
+    requires { length round.now ≤ 64 }
+    ensures { IsLowestAnswer (length round.now) (λ k. 1 < subpics_of (picture_at round.now k).sps) result }
+{
+    for k in 0..round.len() {
+        if 1 < round[k].sps().subpics() {
+            return Some(k as u16);
+        }
+    }
+    None
+}
+
+/// Whether a source has several subpictures.
+pub(crate) fn several_subpictures(round: &[Picture<'_>]) -> Option<Refusal>
+    requires { length round.now ≤ 64 }
+    ensures { Finds (length round.now) (rules.several_subpictures round.now ∷ []) result }
+{
+    of_source(SEVERAL_SUBPICTURES, lowest_several(round))
+}
+
+// ---- tools of sequences
+
+/// The first field of a profile of which two sets have other numbers.
+fn differing_profile(sps: &Sps, first: &Sps) -> Option<u16>
+    ensures { result ≡ rules.differing_number rules.profile_fields sps.now first.now }
+{
+    let (scope, others) = (sps.scope(), first.scope());
+    if scope.latest(PROFILE[0]) != others.latest(PROFILE[0]) {
+        return Some(PROFILE[0]);
+    }
+    if scope.latest(PROFILE[1]) != others.latest(PROFILE[1]) {
+        return Some(PROFILE[1]);
+    }
+    if scope.latest(PROFILE[2]) != others.latest(PROFILE[2]) {
+        return Some(PROFILE[2]);
+    }
+    if scope.latest(PROFILE[3]) != others.latest(PROFILE[3]) {
+        return Some(PROFILE[3]);
+    }
+    None
+}
+
+/// The field in which an SPS differs from another, of which these are the kept fields.
+fn sps_field(
+    alloc: Global,
+    sps: &Sps,
+    first: &Sps,
+    kept: &Fields,
+) -> Result<Option<u16>, AllocError>
+    requires { kept.now ≡ inputs.sps_fields first.now }
+    ensures { IfOk result (λ field. field ≡ option_or (differences.differing_field (inputs.sps_fields sps.now) (inputs.sps_fields first.now)) (rules.differing_number rules.profile_fields sps.now first.now)) }
+{
+    if same_items(sps.fields().as_slice(), first.fields().as_slice()) {
+        return Ok(None);
+    }
+    let own = keep_sps(alloc, sps)?;
+    match differing_field(own.as_slice(), kept.as_slice()) {
+        Some(field) => Ok(Some(field)),
+        None => Ok(differing_profile(sps, first)),
+    }
+}
+
+/// The field in which the SPS of a source differs from source 0's, of which these are the kept fields.
+fn sps_field_at(
+    alloc: Global,
+    round: &[Picture<'_>],
+    kept: &Fields,
+    k: usize,
+) -> Result<Option<u16>, AllocError>
+    requires k { k < length round.now }
+    requires kept { kept.now ≡ rules.kept_sps (picture_at round.now 0) }
+    ensures { IfOk result (TellsField (rules.sps_tools round.now).breaks (rules.sps_field round.now) k) }
+{
+    let field = sps_field(alloc, round[k].sps(), round[0].sps(), kept)?;
+    Ok(field)
+}
+
+// ---- tools of pictures
+
+/// The field in which a PPS differs from another, of which these are the kept fields.
+fn pps_field(
+    alloc: Global,
+    pps: &Pps,
+    first: &Pps,
+    kept: &Fields,
+) -> Result<Option<u16>, AllocError>
+    requires { kept.now ≡ inputs.pps_fields first.now }
+    ensures { IfOk result (λ field. field ≡ differences.differing_field (inputs.pps_fields pps.now) kept.now) }
+{
+    if same_items(pps.fields().as_slice(), first.fields().as_slice()) {
+        return Ok(None);
+    }
+    let own = keep_pps(alloc, pps)?;
+    Ok(differing_field(own.as_slice(), kept.as_slice()))
+}
+
+/// The field in which the PPS of a source differs from source 0's, of which these are the kept fields.
+fn pps_field_at(
+    alloc: Global,
+    round: &[Picture<'_>],
+    kept: &Fields,
+    k: usize,
+) -> Result<Option<u16>, AllocError>
+    requires k { k < length round.now }
+    requires kept { kept.now ≡ rules.kept_pps (picture_at round.now 0) }
+    ensures { IfOk result (TellsField (rules.pps_tools round.now).breaks (rules.pps_field round.now) k) }
+{
+    let field = pps_field(alloc, round[k].pps(), round[0].pps(), kept)?;
+    Ok(field)
+}
+
+// ---- tools of either
+
+/// Which parameter set of a picture is looked at.
+#[derive(Clone, Copy)]
+enum SetKind {
+    /// Its SPS.
+    Sps,
+    /// Its PPS.
+    Pps,
+}
+
+/// The kept fields of a picture's set.
+fn kept_in(alloc: Global, picture: &Picture<'_>, set: SetKind) -> Result<Fields, AllocError>
+    ensures { IfOk result (λ kept. kept ≡ tools.kept_in set picture.now) }
+{
+    match set {
+        SetKind::Sps => keep_sps(alloc, picture.sps()),
+        SetKind::Pps => keep_pps(alloc, picture.pps()),
+    }
+}
+
+/// The field in which the set of a source differs from source 0's, of which these are the kept fields.
+fn field_at(
+    alloc: Global,
+    round: &[Picture<'_>],
+    set: SetKind,
+    kept: &Fields,
+    k: usize,
+) -> Result<Option<u16>, AllocError>
+    requires k { k < length round.now }
+    requires kept { kept.now ≡ tools.kept_in set (picture_at round.now 0) }
+    ensures { IfOk result (TellsField (tools.rule_of set round.now).breaks (tools.field_of set round.now) k) }
+{
+    match set {
+        SetKind::Sps => sps_field_at(alloc, round, kept, k),
+        SetKind::Pps => pps_field_at(alloc, round, kept, k),
+    }
+}
+
+/// The lowest source with another set than source 0, as far as tools go.
+fn lowest_other(
+    alloc: Global,
+    round: &[Picture<'_>],
+    set: SetKind,
+) -> Result<Option<Differing>, AllocError>
+    requires { (0 < length round.now) × (length round.now ≤ 64) }
+    ensures { IfOk result (IsLowestField (length round.now) (tools.rule_of set round.now).breaks (tools.field_of set round.now)) }
+{
+    let kept = kept_in(alloc, &round[0], set)?;
+    for k in 0..round.len() {
+        let field = field_at(alloc, round, set, &kept, k)?;
+        if let Some(field) = field {
+            return Ok(Some(Differing {
+                source: k as u16,
+                field,
+            }));
+        }
+    }
+    Ok(None)
+}
+
+/// Whether a source has other tools of sequences than source 0.
+pub(crate) fn sps_tools(alloc: Global, round: &[Picture<'_>]) -> Result<Option<Refusal>, AllocError>
+    requires { (0 < length round.now) × (length round.now ≤ 64) }
+    ensures { IfOk result (Finds (length round.now) (rules.sps_tools round.now ∷ [])) }
+{
+    let lowest = lowest_other(alloc, round, SetKind::Sps)?;
+    Ok(of_field(SPS_TOOLS, lowest))
+}
+
+/// Whether a source has other tools of pictures than source 0.
+pub(crate) fn pps_tools(alloc: Global, round: &[Picture<'_>]) -> Result<Option<Refusal>, AllocError>
+    requires { (0 < length round.now) × (length round.now ≤ 64) }
+    ensures { IfOk result (Finds (length round.now) (rules.pps_tools round.now ∷ [])) }
+{
+    let lowest = lowest_other(alloc, round, SetKind::Pps)?;
+    Ok(of_field(PPS_TOOLS, lowest))
+}

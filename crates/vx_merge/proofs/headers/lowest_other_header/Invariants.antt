@@ -1,6 +1,0 @@
-use Rattle.std.proofs.Common.{ℕ, ◌<◌}
-use Rattle.vx_merge.specs.Rules.{picture_header}
-use Rattle.vx_merge.proofs.headers.lowest_other_header.Given as goal
-
-abbrev pub invariant-loop-k : goal.invariant-loop-k
-invariant-loop-k l = (j : ℕ) → j < l.k → ¬ (picture_header l.round).breaks j

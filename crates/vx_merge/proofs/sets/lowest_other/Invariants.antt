@@ -1,6 +1,0 @@
-use Rattle.std.proofs.Common.{ℕ, ◌<◌}
-use Rattle.vx_merge.specs.inner.Tools.{rule_of}
-use Rattle.vx_merge.proofs.sets.lowest_other.Given as goal
-
-abbrev pub invariant-loop-k : goal.invariant-loop-k
-invariant-loop-k l = (j : ℕ) → j < l.k → ¬ (rule_of l.set l.round).breaks j

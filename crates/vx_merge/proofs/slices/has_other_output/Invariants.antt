@@ -1,7 +1,0 @@
-use Rattle.std.proofs.Common.{◌≡◌, Some, take}
-use Rattle.std.specs.List.{AllByRecursion}
-use Rattle.vx_merge.specs.Rules.{outputs_of}
-use Rattle.vx_merge.proofs.slices.has_other_output.Given as goal
-
-abbrev pub invariant-loop-i : goal.invariant-loop-i
-invariant-loop-i l = AllByRecursion (λ x. Some l.first ≡ Some x) (take l.i (outputs_of l.picture))
