@@ -24,9 +24,7 @@ use vx_fields::sps::{
 use vx_pps::Pps;
 use vx_rpl::{RplTable, resolve_lists};
 use vx_sps::Sps;
-use vx_table::{
-    Rewriter, Scope, SpellError, Unwritten, item, only_memory, others_of, push_where,
-};
+use vx_table::{Rewriter, Scope, SpellError, Unwritten, item, only_memory, others_of, push_where};
 
 /// Luma mapping with chroma scaling.
 fn push_lmcs(chroma: u32, lmcs: Option<LmcsShape>, into: &mut Fields) -> Result<(), AllocError>
