@@ -1,4 +1,4 @@
-use Rattle.std.proofs.Common.{length, Some}
+use Rattle.std.proofs.Common.{length}
 use Rattle.vx_frame.specs.Rules.{rules_of_pictures, rules_of_slices}
 use Rattle.vx_frame.proofs.SameSets.{known_for, some_flags_known, some_pps_known}
 use Rattle.vx_frame.proofs.Verdicts.{broken_all, passed_all}

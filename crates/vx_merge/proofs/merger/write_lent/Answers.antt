@@ -1,6 +1,5 @@
-use Rattle.std.proofs.Common.{length, map, refl, sym, ap, ◌∙◌}
+use Rattle.std.proofs.Common.{length, map, sym, ap, ◌∙◌}
 use Rattle.std.proofs.lemmas.List.{length-map}
-use Rattle.std.proofs.lemmas.Result.{err_from_is_err_and}
 use Rattle.vx_merge.specs.Joins.{after_end_of_sequence}
 use Rattle.vx_merge.proofs.merger.write_lent.Goals as goal
 
