@@ -15,7 +15,6 @@ use Rattle.vx_pic.specs.Inputs.{alf_of, bodies_of, body_of, named_body}
 use Rattle.vx_pic.specs.Parts.{Parts, aps_at}
 use Rattle.vx_pic.specs.Sets.{Slot, named, named_filters}
 use Rattle.vx_frame.specs.Bodies.{bodies_in}
-use Rattle.vx_merge.proofs.FilterFields.{naming}
 use Rattle.vx_segments.specs.Alike.{HaveAlike}
 
 -- ---- slots
@@ -97,7 +96,7 @@ four_fields n is P a b c d = elim (eqb_tells 683 n) [
       | inl e ↦ subst P e.1 c
       | inr z ↦ elim (eqb_tells 690 n) [
         | inl e ↦ subst P e.1 d
-        | inr w ↦ absurd (true≢false (sym is ∙ (sym (naming n) ∙ rw (x.0, y.0, z.0, w.0) refl)))
+        | inr w ↦ absurd (true≢false (sym is ∙ rw (x.0, y.0, z.0, w.0) refl))
       ]
     ]
   ]
