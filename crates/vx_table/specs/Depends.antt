@@ -4,7 +4,7 @@ use Rattle.std.specs.List.{list_any}
 use Rattle.vx_table.specs.declared.rows.Cell.{Cell}
 use Rattle.vx_table.specs.Forms.{Form, done, field}
 
--- A set of fields and names is a list of them, in which this one is.
+-- A set of fields and names is a list: it has those that stand in it.
 abbrev pub has : List ℕ → ℕ → Bool
 has names n = list_any (λ name. name == n) names
 

@@ -10,5 +10,6 @@ unfoldable pub listed : Names → List ℕ
 listed (Listed all) = all.now
 listed (More' more p others) = more.now ++ listed others
 
+-- the test of rows, and of parts with what is known behind these
 abbrev pub chain : List ℕ → List ℕ → List Row → List Section → Bool
 chain shown known rows sections = table_depends shown known rows && sections_chain shown (behind_table shown known rows) sections
