@@ -150,7 +150,8 @@ impl State {
         self.begin(alloc, whole, true)
     }
 
-    /// Begins a picture with a header that came in this PH unit, or in none, and keeps what is in force for it.
+    /// Begins a picture with a header that came in this PH unit, or in none, and keeps what is in force for it, and whether its SPS is known
+    /// to be the last whole picture's.
     ///
     /// # Errors
     ///

@@ -1,9 +1,9 @@
 //! A round of pictures, one of each source, that are to become one picture (H.266 6.3.1): which rules keep them from it, and the frame
 //! that they make up where none does.
 //!
-//! [`sound_frame`] tells the first rule that a round breaks, or makes its frame: its layout, its SPS and its PPS, with what
-//! [`round_bodies`] finds of its adaptation parameter sets. A frame serves later rounds with the same sets. The rules are defined in the
-//! folder `specs`.
+//! [`sound_frame`] tells the first rule that a round breaks, or gives its frame, the one that was kept or a new one: its layout, its SPS
+//! and its PPS, with what [`round_bodies`] finds of its adaptation parameter sets. A frame serves later rounds with the same sets. The
+//! rules are defined in the folder `specs`.
 #![tactic(auto)]
 
 mod bodies;

@@ -5,7 +5,7 @@ ghost use Rattle.vx_gen.specs.Rounds.{CornersAreThere, GeneratedAreNotBarred, Ge
 
 use vx_again::{merge_is_read_again, pictures_can_be_merged};
 use vx_annexb::{escaped_is_short, unescaped_joins, units_can_stand};
-use vx_merge::verdict_is_one;
+use vx_frame::verdict_is_one;
 use vx_pic::{readers_are_unique, written_has_pictures, written_reads_again};
 use vx_sh::spelling_is_read;
 use vx_sps::reshaped_signals;

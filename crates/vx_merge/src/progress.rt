@@ -1,4 +1,4 @@
-//! What a merger keeps from round to round.
+//! The state of a merger.
 use vx_frame::Frame;
 use vx_write::Slots;
 

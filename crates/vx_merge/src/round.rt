@@ -175,7 +175,8 @@ fn units_behind<'a>(
     Ok(units)
 }
 
-/// All that is written of a round that breaks no rule, behind the sets that were sent. Its frame is kept then.
+/// All that is written of a round that breaks no rule, behind the sets that were sent. Its frame is kept where it has
+/// one, also where memory runs out behind it.
 ///
 /// # Errors
 ///

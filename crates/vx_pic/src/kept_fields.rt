@@ -52,8 +52,8 @@ fn push_header_front(kept: &mut NameList) -> Result<(), AllocError>
     Ok(())
 }
 
-/// The kept fields of a picture header: those without a star, which a header that is rewritten has as its source. To gather them costs
-/// more than [`kept_among`]: to be done once where several headers are told by what they keep.
+/// The kept fields of a picture header: those without a star, which a header that is rewritten has as its source. To be
+/// gathered once where several headers are told by what they keep.
 ///
 /// # Errors
 ///
