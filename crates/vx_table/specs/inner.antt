@@ -1,2 +1,2 @@
--- What serves bodies alone.
+-- What serves bodies and proofs alone: nothing that a caller has to believe.
 pub mod Names

@@ -20,7 +20,7 @@ pub(crate) fn has(names: &[u16], n: u16) -> bool
     names.contains(&n)
 }
 
-/// A set in a test: a list of names, or one with more before those of another set.
+/// A set in a test: a list of names, or a list with the names of another set behind it.
 #[derive(Drop)]
 enum Names<'a> {
     Listed(&'a [u16]),

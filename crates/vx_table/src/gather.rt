@@ -1,4 +1,4 @@
-//! Items that a rewritten structure is put together of: those of a set's fields, those of all others, and stated ones.
+//! Items that a rewritten structure is put together of: those of the fields in a list, those of all others, and stated ones.
 
 ghost use Rattle.std.specs.Prelude.{◌≡◌, pos, [], ◌∷◌, ◌++◌, OnOk, IfOk};
 ghost use Rattle.vx_table.specs.Shown.{shown_items};
@@ -8,7 +8,7 @@ use crate::depends::has;
 use std::alloc::{AllocError, Global};
 use vx_bits::{Fields, Item};
 
-/// The items of a set's fields, in order.
+/// The items of the fields with these names, in order.
 ///
 /// # Errors
 ///
@@ -27,7 +27,7 @@ pub fn items_of(alloc: Global, items: &Fields, names: &[u16]) -> Result<Fields, 
     Ok(shown)
 }
 
-/// The items of all fields but those of a set, in order.
+/// The items of all fields but those with these names, in order.
 ///
 /// # Errors
 ///

@@ -68,5 +68,5 @@ pub use rows::{Cell, Coding, Fault, Formula, Limits, Presence, Row, Term};
 pub use scope::Scope;
 pub use sender::Sender;
 pub use stars::{NameList, keeps_only, parts_keep_only, push_unstarred};
-pub use walk::{Coder, code_table, coding_at, coding_of, has_value};
+pub use walk::{Coder, code_table, coding_of, has_value};
 pub use writer::{SpellError, Unwritten, only_memory, take_value, write_code, write_table};

@@ -84,15 +84,7 @@ impl Scope {
         }
     }
 
-    /// The number of a formula.
-    #[inline(always)]
-    pub fn value(&self, formula: Formula) -> u32
-        ensures { result ≡ value self.now formula }
-    {
-        self.number(&formula)
-    }
-
-    /// The number of a formula that stands in a table; most are terms.
+    /// The number of a formula; most are terms.
     #[tactic(auto, unfolding(crate::specs::Scope::value))]
     #[inline(always)]
     pub(crate) fn number(&self, formula: &Formula) -> u32

@@ -28,7 +28,7 @@ impl<'a> Model for Sender<'a> {
     ghost view = { λ s. record { names = s.names.now; shown = s.stated; others = other_items s.names.now s.source } };
 }
 
-/// Passes over the items of a set's fields that come next.
+/// Passes over the items of the fields with these names that come next.
 #[inline(always)]
 fn pass_named(names: &[u16], items: &mut Unwritten<'_>)
     ensures others { other_items names.now items.new ≡ other_items names.now items.old }

@@ -30,18 +30,9 @@ pub trait Coder<I> {
 }
 
 /// A field's coding at a scope.
-#[inline(always)]
-pub fn coding_at(scope: &Scope, coding: Coding<Formula>) -> Coding<u32>
-    ensures value { result ≡ forms.coding_at scope.now coding }
-    ensures width { IsCodable result }
-{
-    coding_in_scope(scope, &coding)
-}
-
-/// The same of a coding that stands in a table.
 #[tactic(auto, unfolding(crate::specs::Forms::coding_at))]
 #[inline(always)]
-fn coding_in_scope(scope: &Scope, coding: &Coding<Formula>) -> Coding<u32>
+fn coding_at(scope: &Scope, coding: &Coding<Formula>) -> Coding<u32>
     ensures value { result ≡ forms.coding_at scope.now coding.now }
     ensures width { IsCodable result }
 {
@@ -124,7 +115,7 @@ fn cell(scope: &Scope, row: &Cell<Formula>) -> Cell<u32>
     Cell {
         field: row.field,
         kept: row.kept,
-        coding: coding_in_scope(scope, &row.coding),
+        coding: coding_at(scope, &row.coding),
         limits: limits(scope, &row.limits),
     }
 }
