@@ -6,7 +6,6 @@ ghost use Rattle.vx_assemble.specs.inner.Order.{KnowsSps};
 ghost use Rattle.vx_assemble.specs.inner.Opening.{held_anew, held_changed, opened_in, IsCountedBy, tid0_by};
 ghost use Rattle.vx_assemble.specs.inner.Changes as changes;
 
-use crate::items::same_items;
 use crate::refusals::structure;
 use crate::state::{BegunPicture, State};
 use vx_annexb::NalHeader;
@@ -18,7 +17,7 @@ use vx_fields::ph::{
 use vx_fields::sps::sps_log2_max_pic_order_cnt_lsb_minus4;
 use vx_pic::{
     CountFields, Kind, PrevTid0, RADL_NUT, RASL_NUT, is_cra_or_gdr, is_idr, is_irap_or_gdr,
-    number_of, picture_order_count,
+    number_of, picture_order_count, same_items,
 };
 use vx_sps::Sps;
 

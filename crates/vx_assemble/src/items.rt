@@ -2,18 +2,11 @@
 ghost use Rattle.std.specs.Prelude.{◌≡◌};
 ghost use Rattle.vx_pic.specs.Sets as sets;
 
-use vx_bits::{Fields, Item};
+use vx_bits::Fields;
 
 /// A field's value: its first item's, and 0 where it has none.
 pub(crate) fn signed(fields: &Fields, field: u16) -> i64
     ensures { result ≡ sets.signed fields.now field }
 {
     fields.first(field).unwrap_or(0)
-}
-
-/// Whether two lists have the same items.
-pub(crate) fn same_items(a: &[Item], b: &[Item]) -> bool
-    ensures { result ≡ sets.same_items a.now b.now }
-{
-    a == b
 }

@@ -10,13 +10,13 @@ ghost use Rattle.vx_pic.specs.H266.{AreOfH266};
 ghost use Rattle.vx_assemble.specs.inner.Given.{Gives};
 ghost use Rattle.vx_assemble.specs.inner.Stored.{IsReadAs, KeepsSet, IsSentAgain, IsPut};
 
-use crate::items::same_items;
 use crate::readers::{pps_of, sps_of};
 use crate::shared::Shared;
 use crate::state::MadeSets;
 use std::alloc::{AllocError, Global};
 use std::marker::Model;
 use vx_bits::{Bytes, ReadError};
+use vx_pic::same_items;
 use vx_pps::Pps;
 use vx_sps::Sps;
 

@@ -8,10 +8,10 @@ ghost use Rattle.vx_extract.specs.inner.Rewritings.{IsRewriting, IsRewritingOf};
 use crate::shapes::{rewritten_pps, rewritten_sps};
 use std::alloc::{AllocError, Global};
 use vx_bits::Fields;
-use vx_pic::Picture;
+use vx_pic::{Picture, same_items};
 use vx_pps::Pps;
 use vx_sps::Sps;
-use vx_write::{copied, same_items};
+use vx_write::copied;
 
 /// The two sets that are sent for a subpicture of pictures with two sets.
 #[derive(Drop)]

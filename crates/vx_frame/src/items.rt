@@ -9,5 +9,5 @@ use vx_bits::Fields;
 pub(crate) fn same_items(a: &Fields, b: &Fields) -> bool
     ensures { OnTrue result (a.now ≡ b.now) }
 {
-    vx_write::same_items(a.as_slice(), b.as_slice())
+    vx_pic::same_items(a.as_slice(), b.as_slice())
 }

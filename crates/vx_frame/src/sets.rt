@@ -18,10 +18,9 @@ use vx_fields::ptl::{
     general_profile_idc, general_tier_flag, ptl_frame_only_constraint_flag,
     ptl_multilayer_enabled_flag,
 };
-use vx_pic::{Picture, differing_field};
+use vx_pic::{Picture, differing_field, same_items};
 use vx_pps::{Pps, keep_pps};
 use vx_sps::{Sps, keep_sps};
-use vx_write::same_items;
 
 /// The fields of a profile that sources have to share: profile, tier, and whether there are frames alone and one layer alone.
 const PROFILE: [u16; 4] = [

@@ -57,7 +57,7 @@ seen_alike f xs ys i size past front =
 
 -- ---- items
 
-same_self : (b : Item) → same_item b b ≡ true
+pub same_self : (b : Item) → same_item b b ≡ true
 same_self b =
     let f : (b.field == b.field) ≡ true = elim (eqb_tells b.field b.field) [ inl same ↦ same.0 | inr other ↦ absurd (other.1 refl) ] in
     let v : int_eq b.value b.value ≡ true = (Decides-int_eq b.value b.value).1 refl in

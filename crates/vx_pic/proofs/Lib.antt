@@ -33,5 +33,6 @@ pub mod Bodies
 pub mod FieldNumbers
 pub mod Shown
 pub mod Comparing
+pub mod SameItems
 pub mod FieldByField
 pub mod PartByPart

@@ -2,6 +2,7 @@
 ghost use Rattle.std.specs.Prelude.{◌≡◌, ℕ, Bool, List, [], ◌∷◌, Some, map, option_copied, option_map};
 ghost use Rattle.std.specs.Bool.{OnTrue, OnFalse};
 ghost use Rattle.vx_pic.specs.Seen.{alf_seen, input_seen};
+ghost use Rattle.vx_pic.specs.Sets as sets;
 ghost use Rattle.vx_pic.specs.Differences as differences;
 ghost use Rattle.vx_pic.specs.Differences.{IsDifference};
 ghost use Rattle.vx_pic.specs.inner.Compared.{Compares};
@@ -21,6 +22,26 @@ pub struct Difference {
     /// For the kept fields of a set or a header, parts 2 to 5, the number of the field at the first place where both lists differ:
     /// the first list's there, or the second's where the first has ended. Else 0.
     pub field: u16,
+}
+
+/// Whether two lists have the same items. It takes no memory.
+#[tactic(auto, using(crate::proofs::SameItems::items_longer, crate::proofs::SameItems::field_differs, crate::proofs::SameItems::value_differs, crate::proofs::SameItems::alike_at, crate::proofs::SameItems::all_alike_items))]
+pub fn same_items(items: &[Item], others: &[Item]) -> bool
+    ensures { result ≡ sets.same_items items.now others.now }
+{
+    if items.len() != others.len() {
+        return false;
+    }
+    for i in 0..items.len() {
+        let (item, other) = (&items[i], &others[i]);
+        if item.field != other.field {
+            return false;
+        }
+        if item.value != other.value {
+            return false;
+        }
+    }
+    true
 }
 
 /// The field at the first place where two lists of items differ: the first list's there, or the second's where the first has ended;

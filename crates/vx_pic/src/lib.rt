@@ -28,7 +28,7 @@ mod unit_types;
 
 pub use accepted::Accepted;
 pub use aps_list::ApsList;
-pub use compare::{Difference, differing_field, same_body, same_input, same_lists};
+pub use compare::{Difference, differing_field, same_body, same_input, same_items, same_lists};
 pub use count::{CountFields, PrevTid0, picture_order_count};
 pub use in_force::{AlfInForce, alf_in_force, body_named};
 pub use input::{DecodingInput, decoding_input};

@@ -13,6 +13,7 @@ use std::alloc::{AllocError, Global};
 use vx_aps::Aps;
 use vx_bits::{Bytes, Fields, Item};
 use vx_fields::pps::pps_pic_parameter_set_id;
+use vx_pic::same_items;
 use vx_pps::Pps;
 use vx_sps::Sps;
 
@@ -47,13 +48,6 @@ pub enum NeededSet<'a> {
     Pps(&'a Pps),
     /// An adaptation parameter set.
     Aps(NeededAps<'a>),
-}
-
-/// Whether two lists of items are the same.
-pub fn same_items(a: &[Item], b: &[Item]) -> bool
-    ensures { result ≡ sets.same_items a.now b.now }
-{
-    a == b
 }
 
 /// Whether two byte strings are the same.
