@@ -11,9 +11,11 @@ ghost use Rattle.vx_frame.specs.inner.Gathered.{AreFilters};
 
 use crate::told::of_source;
 use std::alloc::{AllocError, Global};
+use vx_aps::ALF;
 use vx_bits::rules::TOO_MANY_ALF;
 use vx_bits::{BodyList, Refusal};
-use vx_pic::{Picture, alf_in_force};
+use vx_fields::alf::{alf_aps_id_chroma, alf_cc_cb_aps_id, alf_cc_cr_aps_id};
+use vx_pic::{Picture, body_named, filter_fields, luma_bodies};
 
 /// The ids of adaptive loop filters.
 const MOST_FILTERS: usize = 8;
@@ -87,11 +89,12 @@ fn add_slice<'a>(
     ensures { OnOk result (map (λ b. b.now) bodies.new ≡ words.with_bodies (map (λ b. b.now) bodies.old) (piece_at (words.filters_of picture.now) picture.now.slices i)) }
 {
     let slice = picture.slice(i);
-    let alf = alf_in_force(alloc, picture, slice.header)?;
-    add_all(bodies, &alf.luma)?;
-    add_some(bodies, alf.chroma)?;
-    add_some(bodies, alf.cc_cb)?;
-    add_some(bodies, alf.cc_cr)?;
+    let items = filter_fields(picture, slice.header);
+    let luma = luma_bodies(alloc, picture, items)?;
+    add_all(bodies, &luma)?;
+    add_some(bodies, body_named(picture, ALF, alf_aps_id_chroma, items))?;
+    add_some(bodies, body_named(picture, ALF, alf_cc_cb_aps_id, items))?;
+    add_some(bodies, body_named(picture, ALF, alf_cc_cr_aps_id, items))?;
     Ok(())
 }
 

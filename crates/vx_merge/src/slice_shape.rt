@@ -22,13 +22,13 @@ use vx_fields::alf::{
     alf_aps_id_chroma, alf_aps_id_luma, alf_cc_cb_aps_id, alf_cc_cr_aps_id, alf_enabled_flag,
 };
 use vx_fields::ph::{ph_explicit_scaling_list_enabled_flag, ph_lmcs_enabled_flag, ph_qp_delta};
-use vx_fields::pps::{pps_alf_info_in_ph_flag, pps_qp_delta_info_in_ph_flag};
+use vx_fields::pps::pps_qp_delta_info_in_ph_flag;
 use vx_fields::sh::{
     sh_explicit_scaling_list_used_flag, sh_lmcs_used_flag, sh_picture_header_in_slice_header_flag,
     sh_qp_delta,
 };
 use vx_frame::{header_number, init_qp, same_bytes};
-use vx_pic::{Picture, number_of};
+use vx_pic::{Picture, filter_fields, number_of};
 use vx_sh::{ShShape, SliceHeader};
 use vx_table::natural;
 
@@ -138,11 +138,7 @@ pub(crate) fn filter_in(
     requires { length named.now.ids.items ≡ length named.now.bodies }
     ensures { IfOk result (λ made. made ≡ new_filter named.now picture.now slice.now) }
 {
-    if picture.pps().scope().latest(pps_alf_info_in_ph_flag) != 0 {
-        renamed_filter(alloc, named, picture, &picture.header().fields)
-    } else {
-        renamed_filter(alloc, named, picture, &slice.fields)
-    }
+    renamed_filter(alloc, named, picture, filter_fields(picture, slice))
 }
 
 // ---- what it uses

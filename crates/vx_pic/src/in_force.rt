@@ -87,9 +87,13 @@ fn push_luma<'a>(
     }
 }
 
-/// The bodies for luma that items name.
+/// The bodies for luma that items name, in order.
+///
+/// # Errors
+///
+/// Want of memory.
 #[tactic(auto, using(crate::proofs::Bodies::luma_more))]
-fn luma_bodies<'a>(
+pub fn luma_bodies<'a>(
     alloc: Global,
     picture: &Picture<'a>,
     items: &Fields,
@@ -122,6 +126,17 @@ fn alf_in<'a>(
     })
 }
 
+/// The items among which the adaptive loop filter of a slice stands: the picture header's or its own. It takes no memory.
+pub fn filter_fields<'s, 'a: 's>(picture: &Picture<'a>, slice: &'s SliceHeader) -> &'s Fields
+    ensures { result.now ≡ filter_items picture.now.pps picture.now.header.fields (read_of slice.now) }
+{
+    if picture.pps().scope().latest(pps_alf_info_in_ph_flag) != 0 {
+        &picture.header().fields
+    } else {
+        &slice.fields
+    }
+}
+
 /// The adaptive loop filter of a slice: the picture header's or its own.
 pub fn alf_in_force<'a>(
     alloc: Global,
@@ -130,11 +145,7 @@ pub fn alf_in_force<'a>(
 ) -> Result<AlfInForce<'a>, AllocError>
     ensures { IfOk result (λ alf. alf_seen alf ≡ alf_of picture.now (filter_items picture.now.pps picture.now.header.fields (read_of slice.now))) }
 {
-    if picture.pps().scope().latest(pps_alf_info_in_ph_flag) != 0 {
-        alf_in(alloc, picture, &picture.header().fields)
-    } else {
-        alf_in(alloc, picture, &slice.fields)
-    }
+    alf_in(alloc, picture, filter_fields(picture, slice))
 }
 
 /// Whether a slice uses what the picture header may enable.

@@ -30,7 +30,7 @@ pub use accepted::Accepted;
 pub use aps_list::ApsList;
 pub use compare::{Difference, differing_field, same_body, same_input, same_items, same_lists};
 pub use count::{CountFields, PrevTid0, picture_order_count};
-pub use in_force::{AlfInForce, alf_in_force, body_named};
+pub use in_force::{AlfInForce, alf_in_force, body_named, filter_fields, luma_bodies};
 pub use input::{DecodingInput, decoding_input};
 pub use kept_fields::{header_fields, kept_among, kept_of_header};
 pub use kind::Kind;
