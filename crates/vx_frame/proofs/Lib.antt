@@ -4,6 +4,7 @@ pub mod Deciding
 pub mod Deltas
 pub mod Differing
 pub mod Edging
+pub mod FirstTold
 pub mod Fitted
 pub mod FrameShaping
 pub mod Framing

@@ -10,7 +10,7 @@ ghost use Rattle.vx_frame.specs.inner.Borders as borders;
 ghost use Rattle.vx_frame.specs.inner.Found.{Finds};
 ghost use Rattle.vx_frame.specs.inner.Gathered.{IsLowestWith};
 
-use crate::told::of_source;
+use crate::told::{lowest_of, of_source};
 use vx_bits::Refusal;
 use vx_bits::rules::FILTER_FLAGS;
 use vx_fields::pps::{
@@ -52,17 +52,13 @@ fn has_several(_round: &[Picture<'_>], layouts: &[Numbers], pieces: Pieces, k: u
 }
 
 /// The lowest source with several.
+#[tactic(auto, using(crate::proofs::FirstTold::lowest_told))]
 fn lowest_with_several(round: &[Picture<'_>], layouts: &[Numbers], pieces: Pieces) -> Option<u16>
     requires few { length round.now ≤ 64 }
     requires layouts { layouts.now ≡ regions.layouts_in round.now }
     ensures { IsLowestWith (borders.has_several pieces) round.now result }
 {
-    for k in 0..round.len() {
-        if has_several(round, layouts, pieces, k) {
-            return Some(k as u16);
-        }
-    }
-    None
+    lowest_of(round.len(), |k| has_several(round, layouts, pieces, k))
 }
 
 /// Whether in-loop filters cross their borders in the lowest picture with several.
@@ -108,14 +104,10 @@ fn lowest_crossed_otherwise(round: &[Picture<'_>], layouts: &[Numbers]) -> Optio
 {
     let tiles = lowest_with_several(round, layouts, Pieces::Tiles);
     let slices = lowest_with_several(round, layouts, Pieces::Slices);
-    for k in 0..round.len() {
-        if crosses_otherwise(round, layouts, Pieces::Tiles, tiles, k)
+    lowest_of(round.len(), |k| {
+        crosses_otherwise(round, layouts, Pieces::Tiles, tiles, k)
             || crosses_otherwise(round, layouts, Pieces::Slices, slices, k)
-        {
-            return Some(k as u16);
-        }
-    }
-    None
+    })
 }
 
 /// Whether filters cross borders in one source otherwise than in another.

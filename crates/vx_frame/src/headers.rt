@@ -14,7 +14,7 @@ ghost use Rattle.vx_frame.specs.inner.Gathered.{AreGathered, IsLowestWith};
 
 use crate::bodies::RoundBodies;
 use crate::items::same_items;
-use crate::told::{Differing, of_field, of_source};
+use crate::told::{Differing, lowest_of, lowest_source, of_field, of_source};
 use std::alloc::{AllocError, Global};
 use vx_aps::{LMCS, SCALING};
 use vx_bits::rules::{PICTURE_HEADER, PICTURE_KIND, REFERENCE_LISTS, SHARED_SETS};
@@ -49,16 +49,13 @@ fn same_kind(a: &Picture<'_>, b: &Picture<'_>) -> bool
 }
 
 /// The lowest source whose picture is of another kind than source 0's.
+#[tactic(auto, using(crate::proofs::FirstTold::lowest_told))]
 fn lowest_other_kind(round: &[Picture<'_>]) -> Option<u16>
     requires { (0 < length round.now) × (length round.now ≤ 64) }
     ensures { IsLowestAnswer (length round.now) (UnlikeFirst rules.shared_kind round.now) result }
 {
-    for k in 0..round.len() {
-        if !same_kind(&round[k], &round[0]) {
-            return Some(k as u16);
-        }
-    }
-    None
+    let first = &round[0];
+    lowest_source(round, |picture| !same_kind(picture, first))
 }
 
 /// Whether a source's picture is of another kind than source 0's.
@@ -119,29 +116,21 @@ pub fn scaling_body<'a>(picture: &Picture<'a>) -> Option<&'a [u8]>
 }
 
 /// The lowest source whose header has LMCS.
+#[tactic(auto, using(crate::proofs::FirstTold::lowest_told))]
 pub(crate) fn lowest_with_lmcs(round: &[Picture<'_>]) -> Option<u16>
     requires { length round.now ≤ 64 }
     ensures { IsLowestWith bodies.has_lmcs round.now result }
 {
-    for k in 0..round.len() {
-        if has_lmcs(&round[k]) {
-            return Some(k as u16);
-        }
-    }
-    None
+    lowest_source(round, has_lmcs)
 }
 
 /// The lowest source whose header has scaling lists.
+#[tactic(auto, using(crate::proofs::FirstTold::lowest_told))]
 pub(crate) fn lowest_with_scaling(round: &[Picture<'_>]) -> Option<u16>
     requires { length round.now ≤ 64 }
     ensures { IsLowestWith bodies.has_scaling round.now result }
 {
-    for k in 0..round.len() {
-        if has_scaling(&round[k]) {
-            return Some(k as u16);
-        }
-    }
-    None
+    lowest_source(round, has_scaling)
 }
 
 /// Whether a source has LMCS, and scales chroma residuals otherwise than the lowest one that has it.
@@ -307,12 +296,9 @@ fn lowest_other_sets(round: &[Picture<'_>], lmcs: Option<u16>, scaling: Option<u
     requires scaling { IsLowestWith bodies.has_scaling round.now scaling }
     ensures { IsLowestAnswer (length round.now) (rules.shared_sets round.now).breaks result }
 {
-    for k in 0..round.len() {
-        if has_other_lmcs(round, lmcs, k) || has_other_scaling(round, scaling, k) {
-            return Some(k as u16);
-        }
-    }
-    None
+    lowest_of(round.len(), |k| {
+        has_other_lmcs(round, lmcs, k) || has_other_scaling(round, scaling, k)
+    })
 }
 
 /// Whether a source has other LMCS or scaling lists.
@@ -359,16 +345,13 @@ fn same_first_lists(a: &Picture<'_>, b: &Picture<'_>) -> bool
 }
 
 /// The lowest source whose first slice has other lists than source 0's.
+#[tactic(auto, using(crate::proofs::FirstTold::lowest_told))]
 fn lowest_other_lists(round: &[Picture<'_>]) -> Option<u16>
     requires { (0 < length round.now) × (length round.now ≤ 64) }
     ensures { IsLowestAnswer (length round.now) (UnlikeFirst rules.first_lists round.now) result }
 {
-    for k in 0..round.len() {
-        if !same_first_lists(&round[k], &round[0]) {
-            return Some(k as u16);
-        }
-    }
-    None
+    let first = &round[0];
+    lowest_source(round, |picture| !same_first_lists(picture, first))
 }
 
 /// Whether a source's first slice has other lists than source 0's.

@@ -36,4 +36,4 @@ pub use headers::{header_number, is_chroma_scaled, lmcs_body, scaling_body};
 pub use laws::verdict_is_one;
 pub use shapes::init_qp;
 pub use sound::sound_frame;
-pub use told::of_source;
+pub use told::{lowest_of, lowest_source, of_source};

@@ -10,7 +10,7 @@ ghost use Rattle.vx_frame.specs.Rules as rules;
 ghost use Rattle.vx_frame.specs.inner.Found.{Finds, IsLowestField, TellsField};
 ghost use Rattle.vx_frame.specs.inner.Tools as tools;
 
-use crate::told::{Differing, of_field, of_source};
+use crate::told::{Differing, lowest_source, of_field, of_source};
 use std::alloc::{AllocError, Global};
 use vx_bits::rules::{PPS_TOOLS, SEVERAL_SUBPICTURES, SPS_TOOLS};
 use vx_bits::{Fields, Refusal};
@@ -33,16 +33,12 @@ const PROFILE: [u16; 4] = [
 // ---- several subpictures
 
 /// The lowest source with several subpictures.
+#[tactic(auto, using(crate::proofs::FirstTold::lowest_told))]
 fn lowest_several(round: &[Picture<'_>]) -> Option<u16>
     requires { length round.now ≤ 64 }
     ensures { IsLowestAnswer (length round.now) (λ k. 1 < subpics_of (picture_at round.now k).sps) result }
 {
-    for k in 0..round.len() {
-        if 1 < round[k].sps().subpics() {
-            return Some(k as u16);
-        }
-    }
-    None
+    lowest_source(round, |picture| 1 < picture.sps().subpics())
 }
 
 /// Whether a source has several subpictures.

@@ -9,7 +9,7 @@ ghost use Rattle.vx_frame.specs.Rules as rules;
 ghost use Rattle.vx_frame.specs.inner.Found.{Finds, piece_at};
 
 use crate::collocated::{Collocated, collocated_of, may_name, names_one};
-use crate::told::of_source;
+use crate::told::{lowest_source, of_source};
 use vx_bits::Refusal;
 use vx_bits::rules::{COLLOCATED, OUTPUT_OF_PRIOR};
 use vx_fields::sh::sh_no_output_of_prior_pics_flag;
@@ -171,17 +171,13 @@ fn names_other(picture: &Picture<'_>, first: Option<Collocated>) -> bool
 }
 
 /// The lowest source of which a slice names another one than the first of all.
+#[tactic(auto, using(crate::proofs::FirstTold::lowest_told))]
 fn lowest_other_collocated(round: &[Picture<'_>]) -> Option<u16>
     requires { length round.now ≤ 64 }
     ensures { IsLowestAnswer (length round.now) (SomeUnlikeFirst words.collocated round.now) result }
 {
     let first = first_of_all(round);
-    for k in 0..round.len() {
-        if names_other(&round[k], first) {
-            return Some(k as u16);
-        }
-    }
-    None
+    lowest_source(round, |picture| names_other(picture, first))
 }
 
 /// Whether slices name different collocated pictures.

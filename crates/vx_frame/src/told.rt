@@ -1,8 +1,11 @@
-//! What is told of the lowest source that breaks a rule.
-ghost use Rattle.std.specs.Prelude.{◌≡◌};
+//! The lowest source that breaks a rule, and what is told of it.
+ghost use Rattle.std.specs.Prelude.{◌≡◌, ℕ, ◌<◌, ◌≤◌, length};
+ghost use Rattle.std.specs.Fn.{FnReturnsAt};
+ghost use Rattle.vx_frame.specs.Rounds.{picture_at};
 ghost use Rattle.vx_frame.specs.inner.Found as found;
 
 use vx_bits::Refusal;
+use vx_pic::Picture;
 
 /// A source, and the field in which it differs from another.
 #[derive(Clone, Copy)]
@@ -11,6 +14,34 @@ pub(crate) struct Differing {
     pub(crate) source: u16,
     /// The field.
     pub(crate) field: u16,
+}
+
+/// The lowest of so many sources of which a test holds.
+pub fn lowest_of<F: Fn(usize) -> bool>(count: usize, holds: F) -> Option<u16>
+    requires few { count ≤ 65536 }
+    requires may { (k : ℕ) → k < count → F.pre holds k }
+    ensures { found.IsFirstTold count (F.post holds) result }
+{
+    for k in 0..count {
+        if holds(k) {
+            return Some(k as u16);
+        }
+    }
+    None
+}
+
+/// The lowest source of whose picture a test holds.
+pub fn lowest_source<F: Fn(&Picture<'_>) -> bool>(round: &[Picture<'_>], holds: F) -> Option<u16>
+    requires few { length round.now ≤ 65536 }
+    requires may { F.IsAlwaysCallable holds }
+    ensures { found.IsFirstTold (length round.now) (λ k. FnReturnsAt F.Fn holds (picture_at round.now k)) result }
+{
+    for k in 0..round.len() {
+        if holds(&round[k]) {
+            return Some(k as u16);
+        }
+    }
+    None
 }
 
 /// What is told of a rule on no field, by the lowest source that breaks it.

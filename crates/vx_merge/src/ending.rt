@@ -5,18 +5,15 @@ ghost use Rattle.vx_fit.specs.Lowest.{IsLowestAnswer};
 ghost use Rattle.vx_merge.specs.Ends.{IsMarkedGoing, IsMarkedEnded, IsLengths};
 
 use crate::ended::Lengths;
+use vx_frame::lowest_of;
 
 /// The lowest source that has ended.
+#[tactic(auto, using(vx_frame::proofs::FirstTold::lowest_told))]
 fn lowest_ended(ended: &[bool]) -> Option<u16>
     requires { length ended.now ≤ 65536 }
     ensures { IsLowestAnswer (length ended.now) (IsMarkedEnded ended.now) result }
 {
-    for k in 0..ended.len() {
-        if ended[k] {
-            return Some(k as u16);
-        }
-    }
-    None
+    lowest_of(ended.len(), |k| ended[k])
 }
 
 /// Whether a source goes on.

@@ -9,7 +9,7 @@ ghost use Rattle.vx_merge.specs.Joins.{CanStart};
 use vx_bits::Refusal;
 use vx_bits::rules::JOIN_START;
 use vx_fields::ph::ph_non_ref_pic_flag;
-use vx_frame::of_source;
+use vx_frame::{lowest_source, of_source};
 use vx_pic::{Picture, number_of};
 
 /// Whether a picture may come first behind a join.
@@ -28,16 +28,12 @@ fn can_start(picture: &Picture<'_>) -> bool
 }
 
 /// The lowest source whose picture may not.
+#[tactic(auto, using(vx_frame::proofs::FirstTold::lowest_told))]
 fn lowest_unable(round: &[Picture<'_>]) -> Option<u16>
     requires { length round.now ≤ 64 }
     ensures { IsLowestAnswer (length round.now) (words.join_start round.now).breaks result }
 {
-    for k in 0..round.len() {
-        if !can_start(&round[k]) {
-            return Some(k as u16);
-        }
-    }
-    None
+    lowest_source(round, |picture| !can_start(picture))
 }
 
 /// Whether the pictures of a round can't be joined behind others.

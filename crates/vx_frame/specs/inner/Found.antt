@@ -1,5 +1,5 @@
 -- What the searches for broken rules answer.
-use Rattle.std.specs.Prelude.{◌≡◌, ℕ, ◌<◌, List, flat_map, slice_get, option_to_list, Option, Some, None, Result, Ok, Err}
+use Rattle.std.specs.Prelude.{◌≡◌, ℕ, ◌<◌, Bool, true, false, List, flat_map, slice_get, option_to_list, unwrap_or, Option, Some, None, Result, Ok, Err}
 use Rattle.vx_bits.specs.declared.refusal.Refusal.{Refusal}
 use Rattle.vx_bits.specs.declared.refusal.Refusal.TheVariants.{Limit, Merge}
 use Rattle.vx_bits.specs.declared.rules.TheConstants as rules
@@ -64,3 +64,8 @@ fit_refusal (Order k) = Merge rules.REGION_ORDER k 0
 -- what one item of a list adds to what is gathered of all
 abbrev pub piece_at : {A B : Type 0} → (A → List B) → List A → ℕ → List B
 piece_at f xs i = flat_map f (option_to_list (slice_get xs i))
+
+-- the first of the numbers below `count` of which a test tells that it holds
+pub record IsFirstTold (count : ℕ) (Told : ℕ → Bool → Type 0) (answer : Option ℕ) : Type 0 where
+  pub found : (k : ℕ) → answer ≡ Some k → (k < count) × Told k true
+  pub lower : (k : ℕ) → k < unwrap_or answer count → Told k false

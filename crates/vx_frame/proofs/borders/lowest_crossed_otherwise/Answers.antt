@@ -1,8 +1,6 @@
-use Rattle.std.proofs.Common.{below_more, inl, inr}
-use Rattle.vx_frame.specs.Rules.{filter_flags}
+use Rattle.std.proofs.Common.{rules}
+use Rattle.vx_frame.proofs.FirstTold.{lowest_told}
 use Rattle.vx_frame.proofs.borders.lowest_crossed_otherwise.Goals as goal
 
-pub loop-k-preserved : goal.loop-k-preserved
-loop-k-preserved c =
-    below_more (λ j. ¬ (filter_flags c.args.round.now).breaks j) c.loop-k.k c.loop-k.invariant
-    (λ either. elim either [ inl x ↦ c.if-crosses_otherwise.ensures.alike x | inr y ↦ c.if-crosses_otherwise-2.ensures.alike y ])
+pub returns : goal.returns
+returns c = lowest_told _ _ _ _ c.lowest_of.ensures (search rules) (search rules)
