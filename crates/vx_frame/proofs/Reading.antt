@@ -1,15 +1,14 @@
 -- Pictures of a round, and how they differ from the lowest one that has something.
-use Rattle.std.proofs.Common.{◌≡◌, ◌≢◌, ℕ, zero, suc, ◌<◌, Bool, cond, List, [], ◌∷◌, length, get_or, map, take, slice_get, Option, Some, None, unwrap_or, refl, ap, sym, subst, ◌∙◌, inl, inr, arith}
+use Rattle.std.proofs.Common.{◌≡◌, ℕ, zero, suc, ◌<◌, Bool, cond, List, [], ◌∷◌, length, get_or, map, take, slice_get, Option, Some, None, unwrap_or, refl, ap, sym, subst, ◌∙◌, inl, inr, arith}
 use Rattle.std.specs.List.{AllByRecursion}
 use Rattle.std.specs.Prelude.{IsTrue, flat_map}
 use Rattle.std.proofs.lemmas.Bool.{cases_Bool}
 use Rattle.std.proofs.lemmas.List.Concat.{flat_map-cons}
 use Rattle.std.proofs.lemmas.List.{get_or_default}
 use Rattle.std.proofs.lemmas.Option.{none-some}
-use Rattle.vx_fit.specs.Lowest.{IsLowest, IsLowestAnswer}
-use Rattle.vx_fit.proofs.Single.{lowest_one}
+use Rattle.vx_fit.specs.Lowest.{IsLowest}
 use Rattle.vx_pic.specs.Parts.{Parts}
-use Rattle.vx_frame.specs.Rounds.{SomeUnlike, SomeUnlikeFirst, UnlikeFirst, UnlikeLowest, no_picture, picture_at}
+use Rattle.vx_frame.specs.Rounds.{SomeUnlike, SomeUnlikeFirst, no_picture, picture_at}
 use Rattle.vx_frame.specs.Shapes.{of_lowest}
 use Rattle.vx_frame.specs.inner.Gathered.{IsLowestWith}
 use Rattle.vx_frame.proofs.Gathered.{front_first}
@@ -18,25 +17,7 @@ use Rattle.vx_frame.proofs.Gathered.{front_first}
 pub picture_read : (round : List Parts) (k : ℕ) (q : Parts) → k < length round → q ≡ get_or round k q → q ≡ picture_at round k
 picture_read round k q short is = is ∙ get_or_default round k q no_picture short
 
--- ---- the lowest one that has something
-
-pub unlike_none : {A : Type 0} (has : Parts → Bool) (f : Parts → A) (round : List Parts) (k : ℕ) → k < length round
-    → IsLowestAnswer (length round) (λ i. IsTrue (has (picture_at round i))) None → ¬ UnlikeLowest has f round k
-unlike_none has f round k short none = λ unlike. none k short unlike.0
-
-pub unlike_off : {A : Type 0} (has : Parts → Bool) (f : Parts → A) (round : List Parts) (k : ℕ) → ¬ IsTrue (has (picture_at round k)) → ¬ UnlikeLowest has f round k
-unlike_off has f round k off = λ unlike. off unlike.0
-
-pub unlike_on : {A : Type 0} (has : Parts → Bool) (f : Parts → A) (round : List Parts) (k j : ℕ) → IsTrue (has (picture_at round k))
-    → IsLowest (length round) (λ i. IsTrue (has (picture_at round i))) j → f (picture_at round k) ≢ f (picture_at round j) → UnlikeLowest has f round k
-unlike_on has f round k j on lowest other = (on, (j, lowest, other))
-
-pub unlike_alike : {A : Type 0} (has : Parts → Bool) (f : Parts → A) (round : List Parts) (k j : ℕ)
-    → IsLowest (length round) (λ i. IsTrue (has (picture_at round i))) j → f (picture_at round k) ≡ f (picture_at round j) → ¬ UnlikeLowest has f round k
-unlike_alike has f round k j lowest same =
-    λ unlike. unlike.1.2 (same ∙ ap (λ i. f (picture_at round i)) (lowest_one (length round) (λ i. IsTrue (has (picture_at round i))) j unlike.1.0 lowest unlike.1.1))
-
--- what it has
+-- ---- what the lowest one that has something has of it
 
 lowest_at : {A : Type 0} (has : Parts → Bool) (f : Parts → A) (d : A) (round : List Parts) (k : ℕ) → IsLowest (length round) (λ i. IsTrue (has (picture_at round i))) k
     → of_lowest has f d round ≡ f (picture_at round k)
@@ -66,18 +47,6 @@ lowest_absent has f d (x ∷ round) none = elim (cases_Bool (has x)) [
 pub first_mapped : {A B : Type 0} (f : A → B) (xs : List A) (x : A) → slice_get xs 0 ≡ Some x → map f (take 1 xs) ≡ f x ∷ []
 first_mapped f [] x is = absurd (none-some x is)
 first_mapped f (y ∷ xs) x is = let same : y ≡ x = ap (λ o. unwrap_or o y) is in rw same refl
-
--- ---- source 0
-
-pub unlike_first : {A : Type 0} (f : Parts → A) (round : List Parts) (k : ℕ) (q p : Parts) → k < length round → 0 < length round
-    → q ≡ get_or round k q → p ≡ get_or round 0 p → f q ≢ f p → UnlikeFirst f round k
-unlike_first f round k q p short some is first other =
-    λ same. other (ap f (picture_read round k q short is) ∙ (same ∙ ap f (sym (picture_read round 0 p some first))))
-
-pub alike_first : {A : Type 0} (f : Parts → A) (round : List Parts) (k : ℕ) (q p : Parts) → k < length round → 0 < length round
-    → q ≡ get_or round k q → p ≡ get_or round 0 p → f q ≡ f p → ¬ UnlikeFirst f round k
-alike_first f round k q p short some is first same =
-    λ other. other (ap f (sym (picture_read round k q short is)) ∙ (same ∙ ap f (picture_read round 0 p some first)))
 
 -- ---- the first of all in a round
 
