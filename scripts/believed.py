@@ -318,11 +318,21 @@ def end_of_item(text, at):
     return len(text)
 
 
+def text_of_table(text, name):
+    """The text of a table that stands in a macro, without what is around it."""
+    m = re.compile(rf"^macro_rules! {name} \{{\n    \(\$as:ident\) => \{{ \$as! (?=\{{)", re.M).search(text)
+    if not m:
+        sys.exit(f"{name} isn't a macro with the text of a table, as docs/TABLES.md has it")
+    return text[m.end() : close_of(text, m.end())]
+
+
 def rust_item(module, m, lines):
     """An item of Rust."""
     name = m[2] or m[4] or m[6]
     kind = "constant" if m[1] else "type" if m[3] else "macro"
     body = module.text[m.start() : end_of_item(module.text, m.end())]
+    if kind == "constant" and (syntax := re.search(r"\b(\w+)!\(table\)", body)):
+        body = body.replace(syntax[0], f"table! {text_of_table(module.text, syntax[1])}")
     if kind == "constant" and re.search(r"\btable! ?\{", body):
         kind = "table"
     line = module.text.count("\n", 0, m.start())

@@ -16,7 +16,7 @@ use Rattle.vx_pic.specs.Parts.{aps_at, AreThere, aps_named_by, read_of}
 use Rattle.vx_sh.specs.declared.header.SliceHeader.{SliceHeader as SliceValue}
 use Rattle.vx_assemble.specs.inner.Takes.{AreSmall}
 use Rattle.vx_assemble.specs.inner.Joining.{all_there, items_only, names_in, qp_in, qp_checked}
-use Rattle.vx_assemble.proofs.SameItems.{dropped_at, dropped_all}
+use Rattle.vx_table.proofs.Places.{dropped_at, dropped_all}
 
 -- ---- one behind another
 

@@ -1,25 +1,9 @@
 -- Lists of the same items, item by item.
-use Rattle.std.proofs.Common.{◌≡◌, ℕ, zero, suc, ◌+◌, ◌≤◌, true, List, [], ◌∷◌, length, drop, refl, arith, add-one}
-use Rattle.std.specs.Prelude.{Some, slice_get}
-use Rattle.std.proofs.Math.Seq.{drop-cons}
+use Rattle.std.proofs.Common.{◌≡◌, true, List, [], ◌∷◌, refl}
 use Rattle.std.proofs.lemmas.Bool.{eq-eqb}
 use Rattle.std.specs.Cmp.{int_eq_equiv}
-use Rattle.std.proofs.lemmas.Option.{slice_get_within, get_or_from_slice_get}
 use Rattle.vx_bits.specs.declared.list.Item.{Item}
 use Rattle.vx_pic.specs.Sets.{same_item, same_items}
-
--- ---- places
-
-pub dropped_at : {A : Type 0} (xs : List A) (i : ℕ) (x : A) → slice_get xs i ≡ Some x → drop i xs ≡ x ∷ drop (i + 1) xs
-dropped_at xs i x is = rw (drop-cons xs i x (slice_get_within xs i x is), get_or_from_slice_get xs i x x is, add-one i) refl
-
-pub dropped_all : {A : Type 0} (xs : List A) (i : ℕ) → length xs ≤ i → drop i xs ≡ []
-dropped_all [] zero h = refl
-dropped_all [] (suc i) h = refl
-dropped_all (x ∷ xs) zero h = absurd (omega arith)
-dropped_all (x ∷ xs) (suc i) h = dropped_all xs i (omega arith)
-
--- ---- lists of the same items
 
 pub same_itself : (items : List Item) → same_items items items ≡ true
 same_itself [] = refl

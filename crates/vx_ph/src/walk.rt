@@ -3,17 +3,36 @@ ghost use Rattle.std.specs.Prelude.{◌≡◌};
 ghost use Rattle.vx_table.specs.Walks.{Walks, leaving};
 ghost use Rattle.vx_table.specs.Parts.{sections_form};
 ghost use Rattle.vx_ph.specs.Header.{ph_before_lists, lists_if_present, middle, weights_if_present, back, ph_before_weights, header_form};
+ghost use Rattle.vx_ph.specs.Id.{to_id};
 ghost use Rattle.vx_ph.specs.Picture.{unit_form};
 
+use crate::alf_syntax;
 use crate::tables::{
-    ALF, FILTERS, INTER, INTRA, LMCS_AND_SCALING, ORDER_COUNT, OUTPUT, PICTURE, PPS_ID, QP,
-    TRAILING,
+    TRAILING, filters_syntax, inter_syntax, intra_syntax, lmcs_and_scaling_syntax,
+    order_count_syntax, output_syntax, picture_syntax, pps_id_syntax, qp_syntax,
 };
-use vx_fields::names::ph::HAS_WEIGHTS;
-use vx_fields::pps::{pps_alf_info_in_ph_flag, pps_rpl_info_in_ph_flag};
-use vx_fields::sps::sps_alf_enabled_flag;
+use vx_fields::alf::*;
+use vx_fields::names::ph::*;
+use vx_fields::names::rpl::*;
+use vx_fields::ph::*;
+use vx_fields::pps::*;
+use vx_fields::sps::*;
 use vx_rpl::{RplTable, code_lists, code_weights};
-use vx_table::{Coder, Scope, code_parts, code_table, parts};
+use vx_table::by_type::ALWAYS;
+use vx_table::{Coder, Scope, code_section, code_table, formula, rows};
+
+/// Codes what stands up to the id of the PPS.
+pub(crate) fn code_to_id<I, C: Coder<I>>(
+    scope: &mut Scope,
+    coder: &mut C,
+    items: &mut I,
+) -> Result<(), C::Fault>
+    ensures { Walks C.step (sections_form to_id scope.old) coder.old items.old (leaving scope.new result) coder.new items.new }
+{
+    code_section(&ALWAYS, &picture_syntax!(rows), scope, coder, items)?;
+    code_section(&ALWAYS, &pps_id_syntax!(rows), scope, coder, items)?;
+    Ok(())
+}
 
 /// Codes what stands before the reference picture lists.
 fn code_front<I, C: Coder<I>>(
@@ -23,16 +42,25 @@ fn code_front<I, C: Coder<I>>(
 ) -> Result<(), C::Fault>
     ensures { Walks C.step (sections_form ph_before_lists scope.old) coder.old items.old (leaving scope.new result) coder.new items.new }
 {
-    code_parts(
-        &parts![
-            PICTURE, PPS_ID, ORDER_COUNT,
-            (sps_alf_enabled_flag and pps_alf_info_in_ph_flag) => ALF,
-            LMCS_AND_SCALING, OUTPUT
-        ],
+    code_section(&ALWAYS, &picture_syntax!(rows), scope, coder, items)?;
+    code_section(&ALWAYS, &pps_id_syntax!(rows), scope, coder, items)?;
+    code_section(&ALWAYS, &order_count_syntax!(rows), scope, coder, items)?;
+    code_section(
+        &formula!(by_type (sps_alf_enabled_flag and pps_alf_info_in_ph_flag)),
+        &alf_syntax!(rows),
         scope,
         coder,
         items,
-    )
+    )?;
+    code_section(
+        &ALWAYS,
+        &lmcs_and_scaling_syntax!(rows),
+        scope,
+        coder,
+        items,
+    )?;
+    code_section(&ALWAYS, &output_syntax!(rows), scope, coder, items)?;
+    Ok(())
 }
 
 /// Codes the reference picture lists, where the header has them.
@@ -59,7 +87,9 @@ fn code_middle<I, C: Coder<I>>(
 ) -> Result<(), C::Fault>
     ensures { Walks C.step (sections_form middle scope.old) coder.old items.old (leaving scope.new result) coder.new items.new }
 {
-    code_parts(&parts![INTRA, INTER], scope, coder, items)
+    code_section(&ALWAYS, &intra_syntax!(rows), scope, coder, items)?;
+    code_section(&ALWAYS, &inter_syntax!(rows), scope, coder, items)?;
+    Ok(())
 }
 
 /// Codes prediction weights, where the header has them.
@@ -85,7 +115,9 @@ fn code_back<I, C: Coder<I>>(
 ) -> Result<(), C::Fault>
     ensures { Walks C.step (sections_form back scope.old) coder.old items.old (leaving scope.new result) coder.new items.new }
 {
-    code_parts(&parts![QP, FILTERS], scope, coder, items)
+    code_section(&ALWAYS, &qp_syntax!(rows), scope, coder, items)?;
+    code_section(&ALWAYS, &filters_syntax!(rows), scope, coder, items)?;
+    Ok(())
 }
 
 /// Codes what stands before prediction weights.

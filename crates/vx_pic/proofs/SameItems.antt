@@ -1,10 +1,9 @@
 -- Lists of items that are compared item by item.
-use Rattle.std.proofs.Common.{◌≡◌, ℕ, zero, suc, ◌+◌, ◌≤◌, Bool, true, false, ◌&&◌, List, [], ◌∷◌, length, drop, refl, sym, ◌∙◌, ap, arith, add-one, inl, inr}
+use Rattle.std.proofs.Common.{◌≡◌, ℕ, ◌+◌, ◌≤◌, Bool, true, false, ◌&&◌, List, length, drop, refl, sym, ◌∙◌, ap, arith, inl, inr}
 use Rattle.std.specs.Prelude.{Some, slice_get}
-use Rattle.std.proofs.Math.Seq.{drop-cons}
 use Rattle.std.proofs.lemmas.Bool.{cases_Bool}
-use Rattle.std.proofs.lemmas.Option.{slice_get_within, get_or_from_slice_get}
 use Rattle.vx_bits.specs.declared.list.Item.{Item}
+use Rattle.vx_table.proofs.Places.{dropped_all, dropped_at}
 use Rattle.vx_pic.specs.Sets.{same_item, same_items}
 use Rattle.vx_pic.proofs.Sent.{item_is, items_are}
 use Rattle.vx_pic.proofs.Comparing.{same_self}
@@ -15,9 +14,6 @@ items_longer items others other = elim (cases_Bool (same_items items others)) [
   | inl same ↦ absurd (other (ap length (items_are items others same)))
   | inr not_same ↦ sym not_same
 ]
-
-dropped_at : (xs : List Item) (i : ℕ) (x : Item) → slice_get xs i ≡ Some x → drop i xs ≡ x ∷ drop (i + 1) xs
-dropped_at xs i x is = rw (drop-cons xs i x (slice_get_within xs i x is), get_or_from_slice_get xs i x x is, add-one i) refl
 
 -- at item i
 front_of : (items others : List Item) (i : ℕ) (a b : Item) → slice_get items i ≡ Some a → slice_get others i ≡ Some b
@@ -58,14 +54,8 @@ alike_at items others i a b t here there field value front =
     front ∙ front_of items others i a b here there
     ∙ ap (λ t. t && same_items (drop (i + 1) items) (drop (i + 1) others)) (ap (λ x. same_item a x) (sym (one_item a b field value)) ∙ same_self a)
 
-none_left : (xs : List Item) (i : ℕ) → length xs ≤ i → drop i xs ≡ []
-none_left [] zero past = refl
-none_left [] (suc i) past = refl
-none_left (x ∷ xs) zero past = absurd (omega arith)
-none_left (x ∷ xs) (suc i) past = none_left xs i (omega arith)
-
 -- behind the last item
 pub all_alike_items : (items others : List Item) (i : ℕ) (t : Bool) → length items ≡ length others → length items ≤ i
     → t ≡ same_items (drop i items) (drop i others) → true ≡ t
 all_alike_items items others i t size past front =
-    sym (front ∙ rw (none_left items i past, none_left others i (omega (arith, size, past))) refl)
+    sym (front ∙ rw (dropped_all items i past, dropped_all others i (omega (arith, size, past))) refl)

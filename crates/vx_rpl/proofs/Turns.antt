@@ -13,6 +13,7 @@ use Rattle.vx_table.specs.declared.rows.Presence.TheVariants.{When}
 use Rattle.vx_table.specs.declared.rows.Cell.{Cell}
 use Rattle.vx_table.specs.declared.rows.Row.{Row}
 use Rattle.vx_table.specs.Scope.{fresh, natural, capped, one_if, is_set, value}
+use Rattle.vx_table.specs.inner.ByType.{flag_cell}
 use Rattle.vx_table.specs.Forms.{Form, done, field, ◌>>=◌, has_value, coding_at, limits_at, cell_at, after, one_field, turns, present, part, form_of}
 use Rattle.vx_table.specs.EachField.{rows_pass}
 use Rattle.vx_table.specs.Spelling.{HasCode, item_of, items_along}
@@ -207,9 +208,6 @@ entry_at b l h m e n =
 signed_at : ℕ → ℕ → ℕ → ℕ → ℕ → ℕ → ℕ → ℕ → ℕ → List ℕ
 signed_at b l h m e n a x y = slice_set (slice_set (slice_set (slice_set (entry_at b l h m e n) st_ref_pic_flag 1) abs_delta_poc_st a) MAY_BE_0 x) HAS_SIGN y
 
-abbrev flag_cell : ℕ → Cell Formula
-flag_cell of = record { field = of; kept = true; coding = Fixed (Plain (Number 1)); limits = Any }
-
 record Turn (n : ℕ) (items : List Item) (end : List ℕ) : Type 0 where
   long : Bool
   are : EntryItems long items
@@ -242,16 +240,16 @@ front_alone form next {w} {front} others {mid} items all on first second =
 -- behind its distance
 signs : (b l h m e n : ℕ) (a : ℤ) (w : List ℤ) (end : List ℕ) → let x : ℕ = one_if (is_set m && is_set e) in let y : ℕ = one_if (x == 0) in
     let s : List ℕ = signed_at b l h m e n (natural a) x y in
-    Follows ((present (When (Either (Latest abs_delta_poc_st) (Latest HAS_SIGN))) (λ t. one_field t (flag_cell strp_entry_sign_flag)) s >>= done) >>= form_of low_rows) w end
-    → Turn n (it abs_delta_poc_st a ∷ items_along ((present (When (Either (Latest abs_delta_poc_st) (Latest HAS_SIGN))) (λ t. one_field t (flag_cell strp_entry_sign_flag)) s >>= done) >>= form_of low_rows) w) end
+    Follows ((present (When (Either (Latest abs_delta_poc_st) (Latest HAS_SIGN))) (λ t. one_field t (flag_cell strp_entry_sign_flag true)) s >>= done) >>= form_of low_rows) w end
+    → Turn n (it abs_delta_poc_st a ∷ items_along ((present (When (Either (Latest abs_delta_poc_st) (Latest HAS_SIGN))) (λ t. one_field t (flag_cell strp_entry_sign_flag true)) s >>= done) >>= form_of low_rows) w) end
 unfolding fresh entry_at signed_at after has_value coding_at item_of
 signs b l h m e n a w end on =
     let x : ℕ = one_if (is_set m && is_set e) in
     let y : ℕ = one_if (x == 0) in
     let s : List ℕ = signed_at b l h m e n (natural a) x y in
-    let form : Form (List ℕ) = present (When (Either (Latest abs_delta_poc_st) (Latest HAS_SIGN))) (λ t. one_field t (flag_cell strp_entry_sign_flag)) s >>= done in
+    let form : Form (List ℕ) = present (When (Either (Latest abs_delta_poc_st) (Latest HAS_SIGN))) (λ t. one_field t (flag_cell strp_entry_sign_flag true)) s >>= done in
     let p = parted form (form_of low_rows) on in
-    elim (optional (Either (Latest abs_delta_poc_st) (Latest HAS_SIGN)) (flag_cell strp_entry_sign_flag) s done p.first) [
+    elim (optional (Either (Latest abs_delta_poc_st) (Latest HAS_SIGN)) (flag_cell strp_entry_sign_flag true) s done p.first) [
       | inl q ↦
           let fin = short_behind b l h m e n (natural a) x y 0 p.mid p.others end ((ended q.1).1) p.second in
           let all = front_alone form (form_of low_rows) p.others [] p.all p.first q.2 fin.0 in
@@ -293,7 +291,7 @@ by_flag b l h m e n (negsuc v) u end is on = absurd is
 
 turn_at : (b l h m e n : ℕ) (w : List ℤ) (end : List ℕ) → Follows (form_of entry_rows (entry_at b l h m e n)) w end → Turn n (items_along (form_of entry_rows (entry_at b l h m e n)) w) end
 unfolding fresh entry_at form_of part one_field after has_value coding_at limits_at value item_of
-turn_at b l h m e n w end on = elim (optional (Plain (Latest sps_long_term_ref_pics_flag)) (flag_cell st_ref_pic_flag) (slice_set (entry_at b l h m e n) st_ref_pic_flag 1) (form_of kind_rows) on) [
+turn_at b l h m e n w end on = elim (optional (Plain (Latest sps_long_term_ref_pics_flag)) (flag_cell st_ref_pic_flag true) (slice_set (entry_at b l h m e n) st_ref_pic_flag 1) (form_of kind_rows) on) [
   | inl q ↦
       let t = short b l h m e n w end q.1 in
       record { long = t.long; are = subst (EntryItems t.long) (sym q.2) t.are; counted = t.counted }

@@ -1,4 +1,7 @@
 //! The tables of H.266 clauses 7.3.9 (reference picture lists), 7.3.10 (their structures) and 7.3.8 (weights).
+//!
+//! Tables that are walked over by type have their text in a macro: `table!` makes the array of it, which is what definitions name,
+//! and `rows!` the rows by type.
 use vx_bits::rules::TOO_MANY_ENTRIES;
 use vx_fields::names::rpl::*;
 use vx_fields::pps::{pps_rpl1_idx_present_flag, pps_weighted_bipred_flag, pps_wp_info_in_ph_flag};
@@ -10,74 +13,96 @@ use vx_fields::sps::{
 use vx_fields::weights::*;
 use vx_table::{Row, table};
 
+macro_rules! before_list_0_syntax {
+    ($as:ident) => { $as! {
+        default rpl_sps_flag = 0;
+        default rpl_idx = 0;
+    } };
+}
 /// Before list 0 of a header, which takes nothing over.
-pub const BEFORE_LIST_0: [Row; 2] = table! {
-    default rpl_sps_flag = 0;
-    default rpl_idx = 0;
-};
+pub const BEFORE_LIST_0: [Row; 2] = before_list_0_syntax!(table);
 
+macro_rules! choice_syntax {
+    ($as:ident) => { $as! {
+        let STRUCTURE = NUM_STRUCTURES;
+        default num_ref_entries = 0;
+        default ltrp_in_header_flag = 0;
+        let LONG_ENTRIES = 0;
+        let IS_SPELLED = (IS_LIST_0 or pps_rpl1_idx_present_flag);
+        let HAS_SEVERAL = (NUM_STRUCTURES > 1);
+        if (not NUM_STRUCTURES) { default rpl_sps_flag = 0; }
+        if (NUM_STRUCTURES and IS_SPELLED) { rpl_sps_flag; }
+        let HAS_INDEX = (rpl_sps_flag and HAS_SEVERAL);
+        if (not HAS_INDEX) { default rpl_idx = 0; }
+        if HAS_INDEX {
+            if IS_SPELLED { rpl_idx: u(ceil_log2 NUM_STRUCTURES) below NUM_STRUCTURES; }
+            let LEADS_PAST = (NUM_STRUCTURES <= rpl_idx);
+            if LEADS_PAST { refuse rpl_idx; }
+        }
+    } };
+}
 /// Where the structure of a header's list is, clause 7.3.9: in the SPS, which one of it, or in the header.
 ///
 /// Where list 1 spells neither, it takes over what list 0 has.
-pub const CHOICE: [Row; 19] = table! {
-    let STRUCTURE = NUM_STRUCTURES;
-    default num_ref_entries = 0;
-    default ltrp_in_header_flag = 0;
-    let LONG_ENTRIES = 0;
-    let IS_SPELLED = (IS_LIST_0 or pps_rpl1_idx_present_flag);
-    let HAS_SEVERAL = (NUM_STRUCTURES > 1);
-    if (not NUM_STRUCTURES) { default rpl_sps_flag = 0; }
-    if (NUM_STRUCTURES and IS_SPELLED) { rpl_sps_flag; }
-    let HAS_INDEX = (rpl_sps_flag and HAS_SEVERAL);
-    if (not HAS_INDEX) { default rpl_idx = 0; }
-    if HAS_INDEX {
-        if IS_SPELLED { rpl_idx: u(ceil_log2 NUM_STRUCTURES) below NUM_STRUCTURES; }
-        let LEADS_PAST = (NUM_STRUCTURES <= rpl_idx);
-        if LEADS_PAST { refuse rpl_idx; }
-    }
-};
+pub const CHOICE: [Row; 19] = choice_syntax!(table);
 
+macro_rules! ref_pic_list_struct_syntax {
+    ($as:ident) => { $as! {
+        num_ref_entries: ue in 0..=29 else Limit(TOO_MANY_ENTRIES);
+        let IN_SPS = (STRUCTURE < NUM_STRUCTURES);
+        let IN_HEADER = (not IN_SPS);
+        default ltrp_in_header_flag = (sps_long_term_ref_pics_flag and IN_HEADER);
+        if (sps_long_term_ref_pics_flag and IN_SPS) { if num_ref_entries { ltrp_in_header_flag; } }
+        let MAY_WEIGHT = (sps_weighted_pred_flag or sps_weighted_bipred_flag);
+        let LONG_ENTRIES = 0;
+        for ENTRY in num_ref_entries {
+            default st_ref_pic_flag = 1;
+            if sps_long_term_ref_pics_flag { st_ref_pic_flag; }
+            if st_ref_pic_flag {
+                abs_delta_poc_st: ue in 0..=32767;
+                let MAY_BE_0 = (MAY_WEIGHT and ENTRY);
+                let HAS_SIGN = (not MAY_BE_0);
+                if (abs_delta_poc_st or HAS_SIGN) { strp_entry_sign_flag; }
+            }
+            let IS_LONG = (not st_ref_pic_flag);
+            let LONG_ENTRIES = (LONG_ENTRIES + IS_LONG);
+            if (not ltrp_in_header_flag) {
+                if IS_LONG { rpls_poc_lsb_lt: u(sps_log2_max_pic_order_cnt_lsb_minus4 + 4); }
+            }
+        }
+    } };
+}
 /// A reference picture list structure, clause 7.3.10: the one of number `STRUCTURE` of the SPS's `NUM_STRUCTURES`, or
 /// where these are equal that of a header.
-pub const REF_PIC_LIST_STRUCT: [Row; 24] = table! {
-    num_ref_entries: ue in 0..=29 else Limit(TOO_MANY_ENTRIES);
-    let IN_SPS = (STRUCTURE < NUM_STRUCTURES);
-    let IN_HEADER = (not IN_SPS);
-    default ltrp_in_header_flag = (sps_long_term_ref_pics_flag and IN_HEADER);
-    if (sps_long_term_ref_pics_flag and IN_SPS) { if num_ref_entries { ltrp_in_header_flag; } }
-    let MAY_WEIGHT = (sps_weighted_pred_flag or sps_weighted_bipred_flag);
-    let LONG_ENTRIES = 0;
-    for ENTRY in num_ref_entries {
-        default st_ref_pic_flag = 1;
-        if sps_long_term_ref_pics_flag { st_ref_pic_flag; }
-        if st_ref_pic_flag {
-            abs_delta_poc_st: ue in 0..=32767;
-            let MAY_BE_0 = (MAY_WEIGHT and ENTRY);
-            let HAS_SIGN = (not MAY_BE_0);
-            if (abs_delta_poc_st or HAS_SIGN) { strp_entry_sign_flag; }
-        }
-        let IS_LONG = (not st_ref_pic_flag);
-        let LONG_ENTRIES = (LONG_ENTRIES + IS_LONG);
-        if (not ltrp_in_header_flag) {
-            if IS_LONG { rpls_poc_lsb_lt: u(sps_log2_max_pic_order_cnt_lsb_minus4 + 4); }
-        }
-    }
-};
+pub const REF_PIC_LIST_STRUCT: [Row; 24] = ref_pic_list_struct_syntax!(table);
 
+macro_rules! long_term_syntax {
+    ($as:ident) => { $as! {
+        for ENTRY in LONG_ENTRIES {
+            if ltrp_in_header_flag { poc_lsb_lt: u(sps_log2_max_pic_order_cnt_lsb_minus4 + 4); }
+            delta_poc_msb_cycle_present_flag;
+            if delta_poc_msb_cycle_present_flag { delta_poc_msb_cycle_lt: ue; }
+        }
+    } };
+}
 /// What a header tells of each long-term entry of a list, clause 7.3.9.
-pub const LONG_TERM: [Row; 6] = table! {
-    for ENTRY in LONG_ENTRIES {
-        if ltrp_in_header_flag { poc_lsb_lt: u(sps_log2_max_pic_order_cnt_lsb_minus4 + 4); }
-        delta_poc_msb_cycle_present_flag;
-        if delta_poc_msb_cycle_present_flag { delta_poc_msb_cycle_lt: ue; }
-    }
-};
+pub const LONG_TERM: [Row; 6] = long_term_syntax!(table);
 
+macro_rules! behind_list_0_syntax {
+    ($as:ident) => { $as! {
+        let ENTRIES_0 = num_ref_entries;
+    } };
+}
 /// Behind list 0.
-pub const BEHIND_LIST_0: [Row; 1] = table! { let ENTRIES_0 = num_ref_entries; };
+pub const BEHIND_LIST_0: [Row; 1] = behind_list_0_syntax!(table);
 
+macro_rules! behind_list_1_syntax {
+    ($as:ident) => { $as! {
+        let ENTRIES_1 = num_ref_entries;
+    } };
+}
 /// Behind list 1.
-pub const BEHIND_LIST_1: [Row; 1] = table! { let ENTRIES_1 = num_ref_entries; };
+pub const BEHIND_LIST_1: [Row; 1] = behind_list_1_syntax!(table);
 
 /// The front of prediction weights, clause 7.3.8.
 pub const WEIGHTS_0: [Row; 8] = table! {
@@ -142,3 +167,10 @@ pub const WEIGHTS_1: [Row; 10] = table! {
         }
     }
 };
+
+pub(crate) use before_list_0_syntax;
+pub(crate) use behind_list_0_syntax;
+pub(crate) use behind_list_1_syntax;
+pub(crate) use choice_syntax;
+pub(crate) use long_term_syntax;
+pub(crate) use ref_pic_list_struct_syntax;

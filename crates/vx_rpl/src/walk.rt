@@ -1,16 +1,21 @@
 //! The walks over the lists of a header and over weights, for every coder.
 ghost use Rattle.std.specs.Prelude.{◌≡◌, true, false, length, count_by, Some};
 ghost use Rattle.vx_table.specs.Walks.{Walks, leaving};
-ghost use Rattle.vx_rpl.specs.Lists.{begun, behind_structure, choice_form, chosen_form, first_form, is_long, list_form, lists_form, picked, second_form, weights_form};
+ghost use Rattle.vx_table.specs.Parts.{sections_form};
+ghost use Rattle.vx_rpl.specs.Lists.{begun, behind_structure, choice_form, chosen_form, first_form, is_long, list_form, lists_form, own_and_long_term, picked, second_form, weights_form};
 
 use crate::entry::{RefList, RplTable, Structure, StructureList};
 use crate::tables::{
-    BEFORE_LIST_0, BEHIND_LIST_0, BEHIND_LIST_1, CHOICE, LONG_TERM, REF_PIC_LIST_STRUCT, WEIGHTS,
-    WEIGHTS_0, WEIGHTS_1,
+    WEIGHTS, WEIGHTS_0, WEIGHTS_1, before_list_0_syntax, behind_list_0_syntax,
+    behind_list_1_syntax, choice_syntax, long_term_syntax, ref_pic_list_struct_syntax,
 };
-use vx_fields::names::rpl::{IS_LIST_0, LONG_ENTRIES, NUM_STRUCTURES};
-use vx_fields::rpl::{ltrp_in_header_flag, num_ref_entries, rpl_idx, rpl_sps_flag};
-use vx_table::{Coder, Scope, code_parts, code_table, parts};
+use vx_bits::rules::TOO_MANY_ENTRIES;
+use vx_fields::names::rpl::*;
+use vx_fields::pps::*;
+use vx_fields::rpl::*;
+use vx_fields::sps::*;
+use vx_table::by_type::ALWAYS;
+use vx_table::{Coder, Rows, Scope, code_parts, code_section, formula, parts, rows};
 
 /// Tells the scope which list comes, and how many structures the SPS has for it.
 #[tactic(auto, unfolding(crate::specs::Lists::begun))]
@@ -56,7 +61,6 @@ fn pick(structures: &StructureList, scope: &mut Scope)
 }
 
 /// Codes where the structure of a list is.
-
 fn code_choice<I, C: Coder<I>>(
     is_list_0: bool,
     structures: &StructureList,
@@ -67,11 +71,30 @@ fn code_choice<I, C: Coder<I>>(
     ensures { Walks C.step (choice_form is_list_0 structures.now scope.old) coder.old items.old (leaving scope.new result) coder.new items.new }
 {
     begin(is_list_0, structures, scope);
-    code_table(&CHOICE, scope, coder, items)
+    let choice = choice_syntax!(rows);
+    choice.code(scope, coder, items)
+}
+
+/// Codes the structure of a list, where it is the list's own, and what the header tells of the long-term entries.
+fn code_structure<I, C: Coder<I>>(
+    scope: &mut Scope,
+    coder: &mut C,
+    items: &mut I,
+) -> Result<(), C::Fault>
+    ensures { Walks C.step (sections_form own_and_long_term scope.old) coder.old items.old (leaving scope.new result) coder.new items.new }
+{
+    code_section(
+        &formula!(by_type (not rpl_sps_flag)),
+        &ref_pic_list_struct_syntax!(rows),
+        scope,
+        coder,
+        items,
+    )?;
+    code_section(&ALWAYS, &long_term_syntax!(rows), scope, coder, items)?;
+    Ok(())
 }
 
 /// Codes the structure of a list that has its own, and what the header tells of the long-term entries.
-
 fn code_chosen<I, C: Coder<I>>(
     structures: &StructureList,
     scope: &mut Scope,
@@ -81,12 +104,7 @@ fn code_chosen<I, C: Coder<I>>(
     ensures { Walks C.step (chosen_form structures.now scope.old) coder.old items.old (leaving scope.new result) coder.new items.new }
 {
     pick(structures, scope);
-    code_parts(
-        &parts![(not rpl_sps_flag) => REF_PIC_LIST_STRUCT, LONG_TERM],
-        scope,
-        coder,
-        items,
-    )
+    code_structure(scope, coder, items)
 }
 
 /// Codes a list of a header, clause 7.3.9.
@@ -118,9 +136,11 @@ pub fn code_first<I, C: Coder<I>>(
 ) -> Result<(), C::Fault>
     ensures { Walks C.step (first_form structures.now scope.old) coder.old items.old (leaving scope.new result) coder.new items.new }
 {
-    code_table(&BEFORE_LIST_0, scope, coder, items)?;
+    let before = before_list_0_syntax!(rows);
+    before.code(scope, coder, items)?;
     code_list(true, structures, scope, coder, items)?;
-    code_table(&BEHIND_LIST_0, scope, coder, items)
+    let behind = behind_list_0_syntax!(rows);
+    behind.code(scope, coder, items)
 }
 
 /// Codes list 1 of a header, behind list 0.
@@ -138,7 +158,8 @@ pub fn code_second<I, C: Coder<I>>(
     ensures { Walks C.step (second_form structures.now scope.old) coder.old items.old (leaving scope.new result) coder.new items.new }
 {
     code_list(false, structures, scope, coder, items)?;
-    code_table(&BEHIND_LIST_1, scope, coder, items)
+    let behind = behind_list_1_syntax!(rows);
+    behind.code(scope, coder, items)
 }
 
 /// Codes the two lists of a header, `ref_pic_lists()`, clause 7.3.9.

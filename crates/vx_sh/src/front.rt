@@ -1,19 +1,22 @@
 //! The walk over a slice header from its first bit on, for every coder.
 ghost use Rattle.std.specs.Prelude.{◌≡◌, ◌≤◌, length};
+ghost use Rattle.vx_table.specs.Forms.{form_of};
 ghost use Rattle.vx_table.specs.Walks.{Walks, leaving};
+ghost use Rattle.vx_sh.specs.declared.tables.TheConstants.{HEADER_INSIDE};
 ghost use Rattle.vx_sh.specs.Whole as whole;
 ghost use Rattle.vx_sh.specs.Whole.{located, points_at, points_of, subpic_form, behind_header, header_inside, apart_form};
 
 use crate::context::Context;
-use crate::tables::{HEADER_INSIDE, KNOWN_SUBPIC, SUBPIC_ID};
+use crate::tables::{header_inside_syntax, known_subpic_syntax, subpic_id_syntax};
 use crate::walk::{EntryPoints, code_rest};
 use vx_bits::IdList;
-use vx_fields::names::sh::{NUM_SLICES, NUM_SUBPICS, SUBPIC};
-use vx_fields::sh::{sh_picture_header_in_slice_header_flag, sh_subpic_id};
-use vx_fields::sps::{sps_entropy_coding_sync_enabled_flag, sps_entry_point_offsets_present_flag};
+use vx_bits::rules::UNKNOWN_SUBPIC_ID;
+use vx_fields::names::sh::*;
+use vx_fields::sh::*;
+use vx_fields::sps::*;
 use vx_layout::Layout;
 use vx_ph::code_header;
-use vx_table::{Coder, Scope, code_table};
+use vx_table::{Coder, Rows, Scope, rows};
 
 /// The slices of a subpicture, of so many.
 fn slices_at(layout: &Layout, subpics: u32, subpic: u32) -> u32
@@ -93,7 +96,8 @@ fn code_id<I, C: Coder<I>>(
 ) -> Result<(), C::Fault>
     ensures { Walks C.step (whole.subpic_id_form n.now.ids.now n.now.layout.now scope.old) coder.old items.old (leaving scope.new result) coder.new items.new }
 {
-    code_table(&SUBPIC_ID, scope, coder, items)?;
+    let id = subpic_id_syntax!(rows);
+    id.code(scope, coder, items)?;
     locate(n, scope);
     Ok(())
 }
@@ -109,7 +113,8 @@ fn code_subpic<I, C: Coder<I>>(
     ensures { Walks C.step (subpic_form n.now.ids.now n.now.layout.now scope.old) coder.old items.old (leaving scope.new result) coder.new items.new }
 {
     code_id(n, scope, coder, items)?;
-    code_table(&KNOWN_SUBPIC, scope, coder, items)
+    let known = known_subpic_syntax!(rows);
+    known.code(scope, coder, items)
 }
 
 /// Codes what stands behind the id of the subpicture.
@@ -145,6 +150,18 @@ pub(crate) fn code_behind<I, C: Coder<I>>(
     code_there(n, scope, coder, items)
 }
 
+/// Codes whether the picture header stands inside.
+pub(crate) fn code_header_inside<I, C: Coder<I>>(
+    scope: &mut Scope,
+    coder: &mut C,
+    items: &mut I,
+) -> Result<(), C::Fault>
+    ensures { Walks C.step (form_of HEADER_INSIDE scope.old) coder.old items.old (leaving scope.new result) coder.new items.new }
+{
+    let first = header_inside_syntax!(rows);
+    first.code(scope, coder, items)
+}
+
 /// Codes a slice header whose picture header stands apart.
 #[tactic(auto, unfolding(crate::specs::Whole::apart_form), using(vx_table::proofs::Steps::then, vx_table::proofs::Steps::stop))]
 pub(crate) fn code_apart<I, C: Coder<I>>(
@@ -155,7 +172,7 @@ pub(crate) fn code_apart<I, C: Coder<I>>(
 ) -> Result<(), C::Fault>
     ensures { Walks C.step (apart_form n.now.table.now n.now.ids.now n.now.layout.now scope.old) coder.old items.old (leaving scope.new result) coder.new items.new }
 {
-    code_table(&HEADER_INSIDE, scope, coder, items)?;
+    code_header_inside(scope, coder, items)?;
     code_behind(n, scope, coder, items)
 }
 

@@ -45,9 +45,7 @@ pub struct SliceNumbers<'a> {
 fn add_slice(nal_type: u8, sps: &Sps, pps: &Pps, header: &PictureHeader, scope: &mut Scope)
     ensures { scope.new ≡ scopes.slice_scope nal_type sps.now pps.now header.now scope.old }
 {
-    let mut own = Scope::new();
-    own.load(&header.fields);
-    scope.take_over(&own, ph_gdr_or_irap_pic_flag);
+    scope.load_from(&header.fields, ph_gdr_or_irap_pic_flag);
     scope.set(ENTRIES_0, header.lists.first.len() as u32);
     scope.set(ENTRIES_1, header.lists.second.len() as u32);
     scope.set(NAL_TYPE, u32::from(nal_type));

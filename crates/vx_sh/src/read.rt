@@ -9,15 +9,14 @@ ghost use Rattle.vx_sh.specs.Value.{ReadsSlice};
 ghost use Rattle.vx_sh.specs.inner.Reading.{IsPassed, ReadsFields};
 
 use crate::context::Context;
-use crate::front::{code_behind, code_inside};
+use crate::front::{code_behind, code_header_inside, code_inside};
 use crate::header::SliceHeader;
-use crate::tables::HEADER_INSIDE;
 use std::alloc::Global;
 use vx_bits::{BitReader, Fields, ReadError};
 use vx_fields::names::sh::SUBPIC;
 use vx_fields::sh::{sh_picture_header_in_slice_header_flag, sh_slice_address};
 use vx_rpl::resolve_lists;
-use vx_table::{Scope, code_table};
+use vx_table::Scope;
 
 /// Passes over the picture header, where it stands inside.
 fn pass_inside(n: &Context<'_>, scope: &Scope, bits: &mut BitReader<'_>) -> Result<(), ReadError>
@@ -39,7 +38,7 @@ fn read_fields(
     requires { into.old ≡ [] }
     ensures { ReadsFields (at_of n.now scope.old) bits.old (leaving scope.new result) bits.new into.new }
 {
-    code_table(&HEADER_INSIDE, scope, bits, into)?;
+    code_header_inside(scope, bits, into)?;
     pass_inside(n, scope, bits)?;
     code_behind(n, scope, bits, into)?;
     Ok(())
@@ -54,7 +53,7 @@ fn read_all(
 ) -> Result<(), ReadError>
     ensures { Reads (slice_form (at_of n.now scope.old)) bits.old into.old result bits.new into.new }
 {
-    code_table(&HEADER_INSIDE, scope, bits, into)?;
+    code_header_inside(scope, bits, into)?;
     code_inside(n, scope, bits, into)?;
     code_behind(n, scope, bits, into)
 }

@@ -3,6 +3,7 @@ ghost use Rattle.std.specs.Prelude.{◌≡◌, ◌≤◌, [], length, IfOk};
 ghost use Rattle.vx_sh.specs.InForce.{in_force_at};
 ghost use Rattle.vx_sh.specs.Reshaped.{GoesAt, IsSent, IsShape};
 ghost use Rattle.vx_sh.specs.declared.numbers.SliceNumbers.{SliceNumbers};
+ghost use Rattle.vx_sh.specs.declared.tables.TheConstants.{STARRED};
 ghost use Rattle.vx_sh.specs.inner.Sending.{AreScopes, SendsApart};
 
 use crate::context::Context;
@@ -16,7 +17,19 @@ use std::alloc::{AllocError, Global};
 use std::marker::Model;
 use vx_bits::{BitWriter, Fields};
 use vx_ph::in_force;
-use vx_table::{Scope, Sender, SpellError, Unwritten, only_memory};
+use vx_table::{FieldSet, Scope, Sender, SpellError, Unwritten, only_memory};
+
+/// The fields with a star, whose items a sender is given apart.
+struct Starred;
+
+impl FieldSet for Starred {
+    ghost names = { STARRED };
+
+    #[inline(always)]
+    fn has(field: u16) -> bool {
+        STARRED.contains(&field)
+    }
+}
 
 /// What the slice headers of a picture are sent at, whose units have one type: made once for all of them.
 ///
@@ -74,8 +87,7 @@ impl<'a> SliceSender<'a> {
             ids: self.numbers.ids,
         };
         let mut scope = self.slice;
-        let mut sender = Sender::new(
-            &STARRED,
+        let mut sender = Sender::<Starred>::new(
             Unwritten::new(stated, 0, stated.len()),
             Unwritten::new(source, 0, source.len()),
         );

@@ -5,14 +5,22 @@ ghost use Rattle.vx_table.specs.Parts.{sections_form};
 ghost use Rattle.vx_sh.specs.Slice.{with_entry_points, address_form, before_lists, lists_here, between, weights_here, behind_weights, front_form, sh_before_weights, rest_form};
 
 use crate::tables::{
-    ACTIVE, ADDRESS, ALIGNMENT, CHROMA_QP_AND_FILTERS, END, FILTER_HERE, INTER, LISTS_HERE,
-    LMCS_AND_SCALING, QP, TYPE,
+    active_syntax, address_syntax, alignment_syntax, chroma_qp_and_filters_syntax, end_syntax,
+    filter_here_syntax, inter_syntax, lists_here_syntax, lmcs_and_scaling_syntax, qp_syntax,
+    type_syntax,
 };
-use vx_fields::names::sh::{HAS_ALF, HAS_LISTS, HAS_WEIGHTS, NUM_ENTRY_POINTS};
-use vx_fields::sh::sh_slice_address;
-use vx_ph::ALF;
+use vx_fields::alf::*;
+use vx_fields::names::ph::FILTER_SET;
+use vx_fields::names::rpl::*;
+use vx_fields::names::sh::*;
+use vx_fields::ph::*;
+use vx_fields::pps::*;
+use vx_fields::sh::*;
+use vx_fields::sps::*;
+use vx_ph::alf_syntax;
 use vx_rpl::{RplTable, code_lists, code_weights};
-use vx_table::{Coder, Scope, code_parts, code_table, parts};
+use vx_table::by_type::ALWAYS;
+use vx_table::{Coder, Rows, Scope, code_section, formula, rows};
 
 /// How many entry points the slices of a subpicture have.
 pub trait EntryPoints {
@@ -43,7 +51,8 @@ fn code_address<I, C: Coder<I>, P: EntryPoints>(
 ) -> Result<(), C::Fault>
     ensures { Walks C.step (address_form (P.points points.now) scope.old) coder.old items.old (leaving scope.new result) coder.new items.new }
 {
-    code_table(&ADDRESS, scope, coder, items)?;
+    let address = address_syntax!(rows);
+    address.code(scope, coder, items)?;
     count_entry_points(points, scope);
     Ok(())
 }
@@ -56,12 +65,24 @@ fn code_before_lists<I, C: Coder<I>>(
 ) -> Result<(), C::Fault>
     ensures { Walks C.step (sections_form before_lists scope.old) coder.old items.old (leaving scope.new result) coder.new items.new }
 {
-    code_parts(
-        &parts![TYPE, FILTER_HERE, HAS_ALF => ALF, LMCS_AND_SCALING, LISTS_HERE],
+    code_section(&ALWAYS, &type_syntax!(rows), scope, coder, items)?;
+    code_section(&ALWAYS, &filter_here_syntax!(rows), scope, coder, items)?;
+    code_section(
+        &formula!(by_type HAS_ALF),
+        &alf_syntax!(rows),
         scope,
         coder,
         items,
-    )
+    )?;
+    code_section(
+        &ALWAYS,
+        &lmcs_and_scaling_syntax!(rows),
+        scope,
+        coder,
+        items,
+    )?;
+    code_section(&ALWAYS, &lists_here_syntax!(rows), scope, coder, items)?;
+    Ok(())
 }
 
 /// Codes the reference picture lists, where they stand here.
@@ -87,7 +108,9 @@ fn code_between<I, C: Coder<I>>(
 ) -> Result<(), C::Fault>
     ensures { Walks C.step (sections_form between scope.old) coder.old items.old (leaving scope.new result) coder.new items.new }
 {
-    code_parts(&parts![ACTIVE, INTER], scope, coder, items)
+    code_section(&ALWAYS, &active_syntax!(rows), scope, coder, items)?;
+    code_section(&ALWAYS, &inter_syntax!(rows), scope, coder, items)?;
+    Ok(())
 }
 
 /// Codes prediction weights, where they stand here.
@@ -112,12 +135,17 @@ fn code_behind_weights<I, C: Coder<I>>(
 ) -> Result<(), C::Fault>
     ensures { Walks C.step (sections_form behind_weights scope.old) coder.old items.old (leaving scope.new result) coder.new items.new }
 {
-    code_parts(
-        &parts![QP, CHROMA_QP_AND_FILTERS, END, ALIGNMENT],
+    code_section(&ALWAYS, &qp_syntax!(rows), scope, coder, items)?;
+    code_section(
+        &ALWAYS,
+        &chroma_qp_and_filters_syntax!(rows),
         scope,
         coder,
         items,
-    )
+    )?;
+    code_section(&ALWAYS, &end_syntax!(rows), scope, coder, items)?;
+    code_section(&ALWAYS, &alignment_syntax!(rows), scope, coder, items)?;
+    Ok(())
 }
 
 /// Codes what stands before the lists.

@@ -5,12 +5,11 @@ ghost use Rattle.vx_sh.specs.Value.{IsSliceOf, IsSliceHeaderSpelling};
 ghost use Rattle.vx_sh.specs.inner.Writing.{WritesFields};
 
 use crate::context::Context;
-use crate::front::{code_behind, code_inside};
+use crate::front::{code_behind, code_header_inside, code_inside};
 use crate::header::SliceHeader;
-use crate::tables::HEADER_INSIDE;
 use std::alloc::{AllocError, Global};
 use vx_bits::{BitWriter, Fields};
-use vx_table::{Scope, SpellError, Unwritten, code_table, only_memory};
+use vx_table::{Scope, SpellError, Unwritten, only_memory};
 
 /// Writes the fields, with those of the picture header where it stands inside.
 fn write_fields(
@@ -26,7 +25,7 @@ fn write_fields(
 {
     let mut own = Unwritten::new(fields, 0, fields.len());
     let mut header = Unwritten::new(inside, 0, inside.len());
-    code_table(&HEADER_INSIDE, scope, bits, &mut own)?;
+    code_header_inside(scope, bits, &mut own)?;
     code_inside(n, scope, bits, &mut header)?;
     code_behind(n, scope, bits, &mut own)?;
     Ok(())

@@ -16,6 +16,8 @@ pub mod Sending
 pub mod Keeping
 pub mod Rewrites
 pub mod Loading
+pub mod LoadedFrom
+pub mod Places
 pub mod Marking
 pub mod With
 pub mod Agreeing
@@ -30,6 +32,7 @@ pub mod Blocks
 pub mod Readings
 pub mod PassingOver
 pub mod Steps
+pub mod ByType
 pub mod Taking
 pub mod Every
 pub mod Joined

@@ -6,12 +6,15 @@
 //! kept fields. [`Scope`] has the numbers that conditions, widths and ranges read. [`depends_only_on`] and
 //! [`keeps_only`] test of a table which of these numbers its fields depend on, and which fields it keeps.
 //! [`Rewriter`] is the coder that puts a structure together of the items of some fields and those of the others, and
-//! [`Sender`] the one that writes it in the same walk.
+//! [`Sender`] the one that writes it in the same walk. [`rows!`] writes a table by type ([`Rows`]), and [`code_section`] walks over it in a structure,
+//! for walks that are made again and again.
 //! docs/TABLES.md says how a table is read and how one is added.
 #![tactic(auto)]
 #![allow(non_upper_case_globals)]
 
 mod arithmetic;
+pub mod by_type;
+mod constants;
 mod depends;
 mod gather;
 mod kept;
@@ -38,6 +41,7 @@ mod walk;
 mod writer;
 
 pub use arithmetic::{ceil_log2, natural, quotient};
+pub use by_type::{Rows, code_section};
 pub use depends::{depends_only_on, parts_depend_only_on};
 pub use gather::{item, items_of, others_of, push_where};
 pub use kept::{keep_parts, keep_table};
@@ -66,7 +70,7 @@ pub use reader::{read_table, read_value, report, take_code, take_field};
 pub use rewriter::{Rewriter, rewrite_parts, rewrite_table};
 pub use rows::{Cell, Coding, Fault, Formula, Limits, Presence, Row, Term};
 pub use scope::Scope;
-pub use sender::Sender;
+pub use sender::{FieldSet, Sender};
 pub use stars::{NameList, keeps_only, parts_keep_only, push_unstarred};
 pub use walk::{Coder, code_table, coding_of, has_value};
 pub use writer::{SpellError, Unwritten, only_memory, take_value, write_code, write_table};

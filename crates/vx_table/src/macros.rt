@@ -1,4 +1,5 @@
-//! `table!`, which writes rows in the look of H.266's syntax tables, and `parts!`, which puts tables together.
+//! `table!`, which writes rows in the look of H.266's syntax tables, and `parts!`, which puts tables together; `rows!`,
+//! which writes a table by type.
 
 /// A term: `4`, or `cbr_flag` for the latest number of that field, and `LOWER` for that of a name.
 #[macro_export]
@@ -7,104 +8,143 @@ macro_rules! term {
     ($of:ident) => { $crate::Term::Latest($of) };
 }
 
+/// A formula of so many terms: a value, or the type that stands for it.
+#[macro_export]
+macro_rules! formula_of {
+    (value $variant:ident $($terms:tt)+) => { $crate::Formula::$variant($($crate::term!($terms)),+) };
+    (by_type $variant:ident $($terms:tt)+) => { $crate::formula_of!(@ $variant [] $($terms)+) };
+    (@ $variant:ident [$($numbers:tt)*] $number:literal $($terms:tt)*) => {
+        $crate::formula_of!(@ $variant [$($numbers)* { $crate::by_type::NO_FIELD }, $number,] $($terms)*)
+    };
+    (@ $variant:ident [$($numbers:tt)*] $of:ident $($terms:tt)*) => {
+        $crate::formula_of!(@ $variant [$($numbers)* $of, 0,] $($terms)*)
+    };
+    (@ $variant:ident [$($numbers:tt)*]) => { $crate::by_type::$variant::<$($numbers)*> };
+}
+
 /// A formula: a term, or one in parentheses, as `(sps_log2_ctu_size_minus5 + 5)` and `(not cbr_flag)`.
 #[macro_export]
 macro_rules! formula {
-    (($($inner:tt)+)) => { $crate::formula!(@ $($inner)+) };
-    ($a:tt) => { $crate::Formula::Plain($crate::term!($a)) };
-    (@ $a:tt) => { $crate::Formula::Plain($crate::term!($a)) };
-    (@ not $a:tt) => { $crate::Formula::Equal($crate::term!($a), $crate::Term::Number(0)) };
-    (@ pow2 $a:tt) => { $crate::Formula::PowerOfTwo($crate::term!($a)) };
-    (@ ceil_log2 $a:tt) => { $crate::Formula::CeilLog2($crate::term!($a)) };
-    (@ $a:tt + $b:tt) => { $crate::Formula::Plus($crate::term!($a), $crate::term!($b)) };
-    (@ $a:tt - $b:tt) => { $crate::Formula::Minus($crate::term!($a), $crate::term!($b)) };
-    (@ $a:tt * $b:tt) => { $crate::Formula::Times($crate::term!($a), $crate::term!($b)) };
-    (@ $a:tt / $b:tt) => { $crate::Formula::Quotient($crate::term!($a), $crate::term!($b)) };
-    (@ $a:tt min $b:tt) => { $crate::Formula::Least($crate::term!($a), $crate::term!($b)) };
-    (@ $a:tt == $b:tt) => { $crate::Formula::Equal($crate::term!($a), $crate::term!($b)) };
-    (@ $a:tt != $b:tt) => { $crate::Formula::Differs($crate::term!($a), $crate::term!($b)) };
-    (@ $a:tt < $b:tt) => { $crate::Formula::Below($crate::term!($a), $crate::term!($b)) };
-    (@ $a:tt <= $b:tt) => { $crate::Formula::AtMost($crate::term!($a), $crate::term!($b)) };
-    (@ $a:tt > $b:tt) => { $crate::Formula::Below($crate::term!($b), $crate::term!($a)) };
-    (@ $a:tt and $b:tt) => { $crate::Formula::Both($crate::term!($a), $crate::term!($b)) };
-    (@ $a:tt or $b:tt) => { $crate::Formula::Either($crate::term!($a), $crate::term!($b)) };
+    ($as:ident ($($inner:tt)+)) => { $crate::formula!(@ $as $($inner)+) };
+    ($as:ident $a:tt) => { $crate::formula!(@ $as $a) };
+    (@ $as:ident $a:tt) => { $crate::formula_of!($as Plain $a) };
+    (@ $as:ident not $a:tt) => { $crate::formula_of!($as Equal $a 0) };
+    (@ $as:ident pow2 $a:tt) => { $crate::formula_of!($as PowerOfTwo $a) };
+    (@ $as:ident ceil_log2 $a:tt) => { $crate::formula_of!($as CeilLog2 $a) };
+    (@ $as:ident $a:tt + $b:tt) => { $crate::formula_of!($as Plus $a $b) };
+    (@ $as:ident $a:tt - $b:tt) => { $crate::formula_of!($as Minus $a $b) };
+    (@ $as:ident $a:tt * $b:tt) => { $crate::formula_of!($as Times $a $b) };
+    (@ $as:ident $a:tt / $b:tt) => { $crate::formula_of!($as Quotient $a $b) };
+    (@ $as:ident $a:tt min $b:tt) => { $crate::formula_of!($as Least $a $b) };
+    (@ $as:ident $a:tt == $b:tt) => { $crate::formula_of!($as Equal $a $b) };
+    (@ $as:ident $a:tt != $b:tt) => { $crate::formula_of!($as Differs $a $b) };
+    (@ $as:ident $a:tt < $b:tt) => { $crate::formula_of!($as Below $a $b) };
+    (@ $as:ident $a:tt <= $b:tt) => { $crate::formula_of!($as AtMost $a $b) };
+    (@ $as:ident $a:tt > $b:tt) => { $crate::formula_of!($as Below $b $a) };
+    (@ $as:ident $a:tt and $b:tt) => { $crate::formula_of!($as Both $a $b) };
+    (@ $as:ident $a:tt or $b:tt) => { $crate::formula_of!($as Either $a $b) };
 }
 
-/// How a row is coded: `u(7)`, `u(sps_subpic_id_len_minus1 + 1)`, `ue`, `se`, or one bit where nothing is said.
+/// The name of a broken range: `OutOfRange`, or one with a number, as `Limit(TOO_LARGE)`.
 #[macro_export]
-macro_rules! coding {
-    () => { $crate::Coding::Fixed($crate::Formula::Plain($crate::Term::Number(1))) };
-    (ue) => { $crate::Coding::Golomb };
-    (se) => { $crate::Coding::SignedGolomb };
-    (u $width:tt) => { $crate::Coding::Fixed($crate::formula!($width)) };
+macro_rules! fault {
+    (value $fault:ident $(($code:tt))?) => { $crate::Fault::$fault $(($code))? };
+    (by_type $fault:ident $(($code:tt))?) => { $crate::by_type::$fault $(::<$code>)? };
 }
 
 /// What values a row takes: `in 0..=6` or `below SLICES`, with `else Profile(CHROMA_FORMAT)` where a broken range has a
 /// name, and `multiple 8 upto 16384 else Limit(TOO_LARGE)` for a picture's size.
 #[macro_export]
 macro_rules! limits {
-    () => { $crate::Limits::Any };
-    (in $low:literal ..= $high:tt) => {
-        $crate::limits!(in $low ..= $high else OutOfRange)
+    (value) => { $crate::Limits::Any };
+    ($as:ident in $low:literal ..= $high:tt) => {
+        $crate::limits!($as in $low ..= $high else OutOfRange)
     };
-    (in $low:literal ..= $high:tt else $($fault:tt)+) => {
+    (value in $low:literal ..= $high:tt else $($fault:tt)+) => {
         $crate::Limits::Within {
             low: $low,
-            high: $crate::formula!($high),
-            fault: $crate::Fault::$($fault)+,
+            high: $crate::formula!(value $high),
+            fault: $crate::fault!(value $($fault)+),
         }
     };
-    (below $bound:tt) => {
-        $crate::limits!(below $bound else OutOfRange)
+    (by_type in $low:literal ..= $high:tt else $($fault:tt)+) => {
+        $crate::by_type::InRange::<$low, _, _>(
+            $crate::formula!(by_type $high),
+            $crate::fault!(by_type $($fault)+),
+        )
     };
-    (below $bound:tt else $($fault:tt)+) => {
+    ($as:ident below $bound:tt) => {
+        $crate::limits!($as below $bound else OutOfRange)
+    };
+    (value below $bound:tt else $($fault:tt)+) => {
         $crate::Limits::Below {
-            bound: $crate::formula!($bound),
-            fault: $crate::Fault::$($fault)+,
+            bound: $crate::formula!(value $bound),
+            fault: $crate::fault!(value $($fault)+),
         }
     };
-    (multiple $unit:literal upto $high:literal else $($fault:tt)+) => {
-        $crate::Limits::Multiple { unit: $unit, high: $high, fault: $crate::Fault::$($fault)+ }
+    (by_type below $bound:tt else $($fault:tt)+) => {
+        $crate::by_type::BelowBound(
+            $crate::formula!(by_type $bound),
+            $crate::fault!(by_type $($fault)+),
+        )
+    };
+    (value multiple $unit:literal upto $high:literal else $($fault:tt)+) => {
+        $crate::Limits::Multiple { unit: $unit, high: $high, fault: $crate::fault!(value $($fault)+) }
     };
 }
 
-/// A row that is no block.
+/// A field or a gap by its number, whether it is kept, and its coding: `Golomb`, or `Fixed` with a formula.
+#[macro_export]
+macro_rules! coded {
+    (value $field:ident, $kept:literal, $coding:ident $(($width:tt))?, [$($limits:tt)*]) => {
+        $crate::Cell {
+            field: $field,
+            kept: $kept,
+            coding: $crate::Coding::$coding $(($crate::formula!(value $width)))?,
+            limits: $crate::limits!(value $($limits)*),
+        }
+    };
+    (by_type $field:ident, $kept:literal, $coding:ident $(($width:tt))?, [$($limits:tt)+]) => {
+        $crate::by_type::Limited(
+            $crate::coded!(by_type $field, $kept, $coding $(($width))?, []),
+            $crate::limits!(by_type $($limits)+),
+        )
+    };
+    (by_type $field:ident, $kept:literal, $coding:ident, []) => {
+        $crate::by_type::$coding::<$field, $kept>
+    };
+    (by_type $field:ident, $kept:literal, $coding:ident($width:tt), []) => {
+        $crate::by_type::$coding::<$field, $kept, _>($crate::formula!(by_type $width))
+    };
+}
+
+/// A field, by how its row is coded: `u(7)`, `u(sps_subpic_id_len_minus1 + 1)`, `ue`, `se`, or one bit where nothing is said.
 #[macro_export]
 macro_rules! cell {
-    ($field:ident, $kept:literal, [$($coding:tt)*], [$($limits:tt)*]) => {
-        $crate::Row::Field($crate::Cell {
-            field: $field,
-            kept: $kept,
-            coding: $crate::coding!($($coding)*),
-            limits: $crate::limits!($($limits)*),
-        })
+    ($as:ident $field:ident, $kept:literal, [], $limits:tt) => {
+        $crate::coded!($as $field, $kept, Fixed(1), $limits)
+    };
+    ($as:ident $field:ident, $kept:literal, [ue], $limits:tt) => {
+        $crate::coded!($as $field, $kept, Golomb, $limits)
+    };
+    ($as:ident $field:ident, $kept:literal, [se], $limits:tt) => {
+        $crate::coded!($as $field, $kept, SignedGolomb, $limits)
+    };
+    ($as:ident $field:ident, $kept:literal, [u $width:tt], $limits:tt) => {
+        $crate::coded!($as $field, $kept, Fixed($width), $limits)
     };
 }
 
-/// A gap or a row without bits.
+/// A gap or a field without bits, by the word that its row begins with.
 #[macro_export]
 macro_rules! gap {
-    ($field:ident, $kept:literal, $coding:ident) => {
-        $crate::gap!($field, $kept, $coding, $crate::Limits::Any)
-    };
-    ($field:ident, $kept:literal, $coding:ident, $limits:expr) => {
-        $crate::Row::Field($crate::Cell {
-            field: $field,
-            kept: $kept,
-            coding: $crate::Coding::$coding,
-            limits: $limits,
-        })
-    };
-}
-
-/// No value is in the range, and what is refused has this name.
-#[macro_export]
-macro_rules! none_but {
-    ($($fault:tt)+) => {
-        $crate::Limits::Below {
-            bound: $crate::Formula::Plain($crate::Term::Number(0)),
-            fault: $crate::Fault::$($fault)+,
-        }
+    ($as:ident zeros $field:ident) => { $crate::coded!($as $field, false, Zeros, []) };
+    ($as:ident one_and_zeros $field:ident) => { $crate::coded!($as $field, false, OneAndZeros, []) };
+    ($as:ident trailing $field:ident) => { $crate::coded!($as $field, false, Trailing, []) };
+    ($as:ident fill $field:ident) => { $crate::coded!($as $field, true, Absent, []) };
+    ($as:ident refuse $field:ident) => { $crate::coded!($as $field, false, Refused, []) };
+    ($as:ident refuse $field:ident else $($fault:tt)+) => {
+        $crate::coded!($as $field, false, Absent, [below 0 else $($fault)+])
     };
 }
 
@@ -141,40 +181,25 @@ macro_rules! count_rows {
 #[macro_export]
 macro_rules! table {
     (@ {} [$($done:expr,)*]) => { [$($done),*] };
-    (@ { zeros $field:ident; $($rest:tt)* } [$($done:expr,)*]) => {
-        $crate::table!(@ { $($rest)* } [$($done,)* $crate::gap!($field, false, Zeros),])
-    };
-    (@ { one_and_zeros $field:ident; $($rest:tt)* } [$($done:expr,)*]) => {
-        $crate::table!(@ { $($rest)* } [$($done,)* $crate::gap!($field, false, OneAndZeros),])
-    };
-    (@ { trailing $field:ident; $($rest:tt)* } [$($done:expr,)*]) => {
-        $crate::table!(@ { $($rest)* } [$($done,)* $crate::gap!($field, false, Trailing),])
-    };
-    (@ { fill $field:ident; $($rest:tt)* } [$($done:expr,)*]) => {
-        $crate::table!(@ { $($rest)* } [$($done,)* $crate::gap!($field, true, Absent),])
-    };
-    (@ { refuse $field:ident; $($rest:tt)* } [$($done:expr,)*]) => {
-        $crate::table!(@ { $($rest)* } [$($done,)* $crate::gap!($field, false, Refused),])
-    };
-    (@ { refuse $field:ident else $fault:ident $(($code:tt))?; $($rest:tt)* } [$($done:expr,)*]) => {
+    (@ { $word:ident $field:ident $(else $fault:ident $(($code:tt))?)?; $($rest:tt)* } [$($done:expr,)*]) => {
         $crate::table!(@ { $($rest)* } [$($done,)*
-            $crate::gap!($field, false, Absent, $crate::none_but!($fault $(($code))?)),
+            $crate::Row::Field($crate::gap!(value $word $field $(else $fault $(($code))?)?)),
         ])
     };
     (@ { default $name:ident = $formula:tt; $($rest:tt)* } [$($done:expr,)*]) => {
         $crate::table!(@ { $($rest)* } [$($done,)*
-            $crate::Row::Name { name: $name, formula: $crate::formula!($formula) },
+            $crate::Row::Name { name: $name, formula: $crate::formula!(value $formula) },
         ])
     };
     (@ { let $name:ident = $formula:tt; $($rest:tt)* } [$($done:expr,)*]) => {
         $crate::table!(@ { $($rest)* } [$($done,)*
-            $crate::Row::Name { name: $name, formula: $crate::formula!($formula) },
+            $crate::Row::Name { name: $name, formula: $crate::formula!(value $formula) },
         ])
     };
     (@ { if $holds:tt { $($block:tt)* } $($rest:tt)* } [$($done:expr,)*]) => {
         $crate::table!(@ { $($block)* $($rest)* } [$($done,)*
             $crate::Row::Block {
-                presence: $crate::Presence::When($crate::formula!($holds)),
+                presence: $crate::Presence::When($crate::formula!(value $holds)),
                 rows: $crate::count_rows!($($block)*),
             },
         ])
@@ -184,7 +209,7 @@ macro_rules! table {
             $crate::Row::Block {
                 presence: $crate::Presence::Repeat {
                     counter: $counter,
-                    times: $crate::formula!($times),
+                    times: $crate::formula!(value $times),
                 },
                 rows: $crate::count_rows!($($block)*),
             },
@@ -198,10 +223,10 @@ macro_rules! table {
         ; $($rest:tt)*
     } [$($done:expr,)*]) => {
         $crate::table!(@ { $($rest)* } [$($done,)*
-            $crate::cell!($field, false, [$($coding $(($($width)+))?)?],
+            $crate::Row::Field($crate::cell!(value $field, false, [$($coding $(($($width)+))?)?],
                 [$(in $low ..= $high $(else $fault $(($code))?)?)?
                  $(below $bound $(else $beyond $(($number))?)?)?
-                 $(multiple $unit upto $most else $above($limit))?]),
+                 $(multiple $unit upto $most else $above($limit))?])),
         ])
     };
     (@ {
@@ -212,10 +237,10 @@ macro_rules! table {
         ; $($rest:tt)*
     } [$($done:expr,)*]) => {
         $crate::table!(@ { $($rest)* } [$($done,)*
-            $crate::cell!($field, true, [$($coding $(($($width)+))?)?],
+            $crate::Row::Field($crate::cell!(value $field, true, [$($coding $(($($width)+))?)?],
                 [$(in $low ..= $high $(else $fault $(($code))?)?)?
                  $(below $bound $(else $beyond $(($number))?)?)?
-                 $(multiple $unit upto $most else $above($limit))?]),
+                 $(multiple $unit upto $most else $above($limit))?])),
         ])
     };
     ($($rows:tt)*) => { $crate::table!(@ { $($rows)* } []) };
@@ -232,7 +257,7 @@ macro_rules! parts {
             $crate::Part {
                 presence: $crate::Presence::Repeat {
                     counter: $counter,
-                    times: $crate::formula!($times),
+                    times: $crate::formula!(value $times),
                 },
                 rows: &$rows,
             },
@@ -241,7 +266,7 @@ macro_rules! parts {
     (@ [$($done:tt)*] $holds:tt => $rows:ident $(, $($rest:tt)*)?) => {
         $crate::parts!(@ [$($done)*
             $crate::Part {
-                presence: $crate::Presence::When($crate::formula!($holds)),
+                presence: $crate::Presence::When($crate::formula!(value $holds)),
                 rows: &$rows,
             },
         ] $($($rest)*)?)
@@ -250,4 +275,75 @@ macro_rules! parts {
         $crate::parts!(@ [$($done)*] 1 => $rows $(, $($rest)*)?)
     };
     ($($parts:tt)*) => { $crate::parts!(@ [] $($parts)*) };
+}
+
+/// A table's rows by type, from the text that [`table!`] makes an array of.
+#[macro_export]
+macro_rules! rows {
+    () => { $crate::by_type::NoRow };
+    ($word:ident $field:ident $(else $fault:ident $(($code:tt))?)?; $($rest:tt)*) => {
+        $crate::by_type::FieldThen {
+            field: $crate::gap!(by_type $word $field $(else $fault $(($code))?)?),
+            rest: $crate::rows!($($rest)*),
+        }
+    };
+    (default $name:ident = $formula:tt; $($rest:tt)*) => {
+        $crate::rows!(let $name = $formula; $($rest)*)
+    };
+    (let $name:ident = $formula:tt; $($rest:tt)*) => {
+        $crate::by_type::NameThen::<$name, _, _> {
+            formula: $crate::formula!(by_type $formula),
+            rest: $crate::rows!($($rest)*),
+        }
+    };
+    (if $holds:tt { $($block:tt)* } $($rest:tt)*) => {
+        $crate::by_type::WhenThen {
+            holds: $crate::formula!(by_type $holds),
+            block: $crate::rows!($($block)*),
+            rest: $crate::rows!($($rest)*),
+        }
+    };
+    (for $counter:ident in $times:tt { $($block:tt)* } $($rest:tt)*) => {
+        $crate::by_type::RepeatThen::<$counter, _, _, _> {
+            times: $crate::formula!(by_type $times),
+            block: $crate::rows!($($block)*),
+            rest: $crate::rows!($($rest)*),
+        }
+    };
+    ($field:ident; $($rest:tt)*) => {
+        $crate::by_type::FlagThen::<$field, true, _> { rest: $crate::rows!($($rest)*) }
+    };
+    ($field:ident *; $($rest:tt)*) => {
+        $crate::by_type::FlagThen::<$field, false, _> { rest: $crate::rows!($($rest)*) }
+    };
+    (
+        $field:ident * $(: $coding:ident $(($($width:tt)+))?)?
+        $(in $low:literal ..= $high:tt $(else $fault:ident $(($code:tt))?)?)?
+        $(below $bound:tt $(else $beyond:ident $(($number:tt))?)?)?
+        $(multiple $unit:literal upto $most:literal else $above:ident ($limit:tt))?
+        ; $($rest:tt)*
+    ) => {
+        $crate::by_type::FieldThen {
+            field: $crate::cell!(by_type $field, false, [$($coding $(($($width)+))?)?],
+                [$(in $low ..= $high $(else $fault $(($code))?)?)?
+                 $(below $bound $(else $beyond $(($number))?)?)?
+                 $(multiple $unit upto $most else $above($limit))?]),
+            rest: $crate::rows!($($rest)*),
+        }
+    };
+    (
+        $field:ident $(: $coding:ident $(($($width:tt)+))?)?
+        $(in $low:literal ..= $high:tt $(else $fault:ident $(($code:tt))?)?)?
+        $(below $bound:tt $(else $beyond:ident $(($number:tt))?)?)?
+        $(multiple $unit:literal upto $most:literal else $above:ident ($limit:tt))?
+        ; $($rest:tt)*
+    ) => {
+        $crate::by_type::FieldThen {
+            field: $crate::cell!(by_type $field, true, [$($coding $(($($width)+))?)?],
+                [$(in $low ..= $high $(else $fault $(($code))?)?)?
+                 $(below $bound $(else $beyond $(($number))?)?)?
+                 $(multiple $unit upto $most else $above($limit))?]),
+            rest: $crate::rows!($($rest)*),
+        }
+    };
 }

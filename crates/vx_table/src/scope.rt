@@ -5,7 +5,7 @@ ghost use Rattle.std.specs.Prelude.{◌≡◌, ℕ, ◌+◌, ◌<◌, ◌≤◌,
 use crate::arithmetic::{ceil_log2, natural, power_of_two, quotient};
 use crate::rows::{Formula, Term};
 use std::marker::Model;
-use vx_bits::Fields;
+use vx_bits::{Fields, Item};
 
 /// The latest number of each field and name, which are themselves numbers below 1024; 0 of those that have none.
 ///
@@ -26,6 +26,7 @@ impl Model for Scope {
 impl Scope {
     ghost use Rattle.std.specs.Prelude.{◌≡◌, ℕ, ◌+◌, ◌<◌, ◌≤◌, min, List, slice_index, slice_set, replicate, length};
     ghost use Rattle.vx_table.specs.Scope.{fresh, latest, value, natural, loaded, joined};
+    ghost use Rattle.vx_table.specs.inner.Loading.{loaded_at};
 
     /// A scope in which every number is 0.
     #[tactic(auto, unfolding(crate::specs::Scope::fresh))]
@@ -73,6 +74,40 @@ impl Scope {
         self.numbers[from..].copy_from_slice(&other.numbers[from..]);
     }
 
+    /// Forgets the numbers of all fields and names from this one on.
+    fn clear_from(&mut self, from: u16)
+        requires { from ≤ 1024 }
+        ensures numbers { self.new ≡ joined from self.old fresh }
+        ensures within { from ≤ length self.old }
+    {
+        let fresh = Scope::new();
+        let from = usize::from(from);
+        self.numbers[from..].copy_from_slice(&fresh.numbers[from..]);
+    }
+
+    /// Gives the field of an item its number, unless it is below another field.
+    #[inline(always)]
+    fn load_at(&mut self, item: Item, from: u16)
+        ensures { self.new ≡ loaded_at from self.old item }
+    {
+        if item.field < from {
+            return;
+        }
+        self.set(item.field, natural(item.value));
+    }
+
+    /// Takes over from this field on what a scope has that only these items were loaded into.
+    #[tactic(auto, using(crate::proofs::LoadedFrom::from_first, crate::proofs::LoadedFrom::from_turn, crate::proofs::LoadedFrom::from_all))]
+    pub fn load_from(&mut self, items: &Fields, from: u16)
+        requires { from ≤ 1024 }
+        ensures { self.new ≡ joined from self.old (loaded fresh items.now) }
+    {
+        self.clear_from(from);
+        for i in 0..items.len() {
+            self.load_at(items.item(i), from);
+        }
+    }
+
     /// The number of a term.
     #[inline(always)]
     fn term(&self, term: &Term) -> u32
@@ -93,12 +128,22 @@ impl Scope {
         if let Formula::Plain(a) = formula {
             return self.term(a);
         }
-        self.computed(formula)
+        self.computed(*formula)
     }
 
-    /// The number of any formula, which is worked out in one place.
+    /// The number of any formula, which is worked out in one place. It takes a copy, so that a formula that is known when a walk is
+    /// compiled needs no memory.
+    #[inline(never)]
+    fn computed(&self, formula: Formula) -> u32
+        ensures { result ≡ value self.now formula }
+    {
+        self.number_inlined(&formula)
+    }
+
+    /// The number of any formula, worked out where it is asked for.
     #[tactic(auto, unfolding(crate::specs::Scope::value))]
-    fn computed(&self, formula: &Formula) -> u32
+    #[inline(always)]
+    pub(crate) fn number_inlined(&self, formula: &Formula) -> u32
         ensures { result ≡ value self.now formula.now }
     {
         match formula {

@@ -5,51 +5,62 @@ ghost use Rattle.vx_table.specs.Spelling.{IsCodable};
 ghost use Rattle.vx_table.specs.Rewritten.{Sources, TakesNext, other_items};
 ghost use Rattle.vx_table.specs.Sent.{BeginsWithOther};
 
-use crate::depends::has;
 use crate::rows::Cell;
 use crate::walk::Coder;
 use crate::writer::{SpellError, Unwritten, take_value, write_code};
-use std::marker::Model;
+use std::marker::{Model, PhantomData};
 use vx_bits::BitWriter;
 
-/// What a structure is sent from: the fields that are stated anew, their items, and all items of its source.
+/// A set of fields that is known when a walk is compiled.
+pub trait FieldSet {
+    ghost use Rattle.std.specs.Prelude.{◌≡◌, List, ℕ};
+    ghost use Rattle.vx_table.specs.Depends as sets;
+
+    ghost names: { List ℕ };
+
+    /// Whether it has this one.
+    fn has(field: u16) -> bool
+        ensures { result ≡ sets.has names field };
+}
+
+/// What a structure is sent from: the items of the fields that are stated anew, those of a set, and all items of its source.
 ///
 /// It is seen as what a [`crate::Rewriter`] is that is given the source's items of the other fields.
 #[derive(Drop)]
-pub struct Sender<'a> {
-    names: &'a [u16],
+pub struct Sender<'a, N: FieldSet> {
+    set: PhantomData<N>,
     stated: Unwritten<'a>,
     source: Unwritten<'a>,
 }
 
-impl<'a> Model for Sender<'a> {
+impl<'a, N: FieldSet> Model for Sender<'a, N> {
     ghost Value = { Sources };
 
-    ghost view = { λ s. record { names = s.names.now; shown = s.stated; others = other_items s.names.now s.source } };
+    ghost view = { λ s. record { names = N.names; shown = s.stated; others = other_items N.names s.source } };
 }
 
-/// Passes over the items of the fields with these names that come next.
+/// Passes over the items of the fields in a set that come next.
 #[inline(always)]
-fn pass_named(names: &[u16], items: &mut Unwritten<'_>)
-    ensures others { other_items names.now items.new ≡ other_items names.now items.old }
-    ensures next { BeginsWithOther names.now items.new }
+fn pass_named<N: FieldSet>(items: &mut Unwritten<'_>)
+    ensures others { other_items N.names items.new ≡ other_items N.names items.old }
+    ensures next { BeginsWithOther N.names items.new }
 {
     let mut behind = items.fork();
     while let Some(item) = behind.next() {
-        if !has(names, item.field) {
+        if !N::has(item.field) {
             return;
         }
         *items = behind.fork();
     }
 }
 
-impl<'a> Sender<'a> {
-    /// From the items of the fields in a set, and all items of another value, of which those of the other fields are taken.
-    pub fn new(names: &'a [u16], stated: Unwritten<'a>, source: Unwritten<'a>) -> Sender<'a>
-        ensures { result ≡ record { names = names.now; shown = stated.entry; others = other_items names.now source.entry } }
+impl<'a, N: FieldSet> Sender<'a, N> {
+    /// From the items of the fields in the set, and all items of another value, of which those of the other fields are taken.
+    pub fn new(stated: Unwritten<'a>, source: Unwritten<'a>) -> Sender<'a, N>
+        ensures { result ≡ record { names = N.names; shown = stated.entry; others = other_items N.names source.entry } }
     {
         Sender {
-            names,
+            set: PhantomData,
             stated,
             source,
         }
@@ -61,15 +72,15 @@ impl<'a> Sender<'a> {
         requires { IsCodable cell.coding }
         ensures { TakesNext cell self.old result self.new }
     {
-        if has(self.names, cell.field) {
+        if N::has(cell.field) {
             return take_value(&mut self.stated, cell);
         }
-        pass_named(self.names, &mut self.source);
+        pass_named::<N>(&mut self.source);
         take_value(&mut self.source, cell)
     }
 }
 
-impl<'a> Coder<BitWriter> for Sender<'a> {
+impl<'a, N: FieldSet> Coder<BitWriter> for Sender<'a, N> {
     ghost use Rattle.vx_table.specs.Sent.{SendsField};
 
     type Fault = SpellError;

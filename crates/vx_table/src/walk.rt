@@ -109,7 +109,7 @@ fn limits(scope: &Scope, limits: &Limits<Formula>) -> Limits<u32>
 
 /// A field at a scope.
 #[inline(always)]
-fn cell(scope: &Scope, row: &Cell<Formula>) -> Cell<u32>
+pub(crate) fn cell(scope: &Scope, row: &Cell<Formula>) -> Cell<u32>
     ensures { result ≡ cell_at scope.now row.now }
 {
     Cell {
@@ -153,7 +153,7 @@ fn flag(row: &Cell<Formula>) -> Option<Cell<u32>>
 
 /// Codes one field at a scope, and gives that its value.
 #[inline(always)]
-fn code_cell<I, C: Coder<I>>(
+pub(crate) fn code_cell<I, C: Coder<I>>(
     cell: Cell<u32>,
     scope: &mut Scope,
     coder: &mut C,

@@ -5,15 +5,15 @@ use Rattle.vx_table.proofs.Steps.{then, stop}
 use Rattle.vx_sh.specs.Whole.{located, subpic_id_form}
 use Rattle.vx_sh.proofs.front.code_id.Goals as goal
 
-pub returns-in_err-code_table : goal.returns-in_err-code_table
+pub returns-in_err-code : goal.returns-in_err-code
 unfolding subpic_id_form
-returns-in_err-code_table g c =
-    let walked = rw c.in_err-code_table.was at c.code_table.ensures in
+returns-in_err-code g c =
+    let walked = rw c.in_err-code.was at c.code.ensures in
     let p = err_from_is_err_and c.from_residual.result c.from_residual.ensures.1 in
     rw (p.1, p.2) (stop (λ t. done (located c.args.n.now.ids.now c.args.n.now.layout.now t)) walked)
 
 pub returns : goal.returns
 unfolding subpic_id_form
 returns g c =
-    let walked = rw c.in_ok-code_table.was at c.code_table.ensures in
+    let walked = rw c.in_ok-code.was at c.code.ensures in
     rw c.locate.ensures (then (λ t. done (located c.args.n.now.ids.now c.args.n.now.layout.now t)) walked ended)

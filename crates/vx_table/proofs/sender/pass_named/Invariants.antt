@@ -4,7 +4,7 @@ use Rattle.vx_table.proofs.sender.pass_named.Given as goal
 
 -- the same items of other fields are left
 abbrev pub invariant-loop-item : goal.invariant-loop-item
-invariant-loop-item l = (l.behind ≡ l.items) × (other_items l.names l.items ≡ other_items l.names l.fn.items)
+invariant-loop-item g l = (l.behind ≡ l.items) × (other_items g.N.FieldSet.names l.items ≡ other_items g.N.FieldSet.names l.fn.items)
 
 abbrev pub decreases-loop-item : goal.decreases-loop-item
-decreases-loop-item l = length l.behind
+decreases-loop-item g l = length l.behind

@@ -1,0 +1,17 @@
+-- The rows that a type has.
+use Rattle.std.specs.Prelude.{ℕ, Bool, cond, ◌==◌}
+use Rattle.vx_table.specs.declared.rows.Term.{Term}
+use Rattle.vx_table.specs.declared.rows.Term.TheVariants.{Number, Latest}
+use Rattle.vx_table.specs.declared.rows.Formula.{Formula}
+use Rattle.vx_table.specs.declared.rows.Formula.TheVariants.{Plain}
+use Rattle.vx_table.specs.declared.rows.Coding.TheVariants.{Fixed}
+use Rattle.vx_table.specs.declared.rows.Limits.TheVariants.{Any}
+use Rattle.vx_table.specs.declared.rows.Cell.{Cell}
+
+-- a term by the two numbers of a type: the latest number of a field or name, or where none is named a written number
+abbrev pub term_of : ℕ → ℕ → Term
+term_of of number = cond (of == 65535) (Number number) (Latest of)
+
+-- a field of one bit and any value
+abbrev pub flag_cell : ℕ → Bool → Cell Formula
+flag_cell of is_kept = record { field = of; kept = is_kept; coding = Fixed (Plain (Number 1)); limits = Any }

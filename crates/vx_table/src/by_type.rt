@@ -1,0 +1,325 @@
+//! Tables by type: a value that holds nothing and whose type has the shape of a table's rows, with all their numbers in it, so that
+//! a walk over it is compiled to the steps of these rows alone. [`rows!`](crate::rows) makes one of a table's text. They are for structures that are walked over again and again, as the headers
+//! of slices; a table that is seldom walked over is smaller as an array.
+
+ghost use Rattle.std.specs.Prelude.{◌≡◌, ◌∷◌};
+ghost use Rattle.vx_table.specs.declared.rows.Presence.TheVariants.{When, Repeat};
+ghost use Rattle.vx_table.specs.Spelling.{IsCodable};
+ghost use Rattle.vx_table.specs.Forms.{done, field, after, one_field, form_of, present};
+ghost use Rattle.vx_table.specs.Walks.{Walks, leaving};
+ghost use Rattle.vx_table.specs.inner.ByType.{flag_cell};
+
+pub use crate::constants::{
+    Absent, AtMost, Below, BelowBound, Both, CeilLog2, Constant, Differs, Either, Equal, Fixed,
+    Golomb, InRange, Least, Limit, Limited, Minus, NO_FIELD, OneAndZeros, OutOfRange, Plain, Plus,
+    PowerOfTwo, Profile, Quotient, Refused, SignedGolomb, Structure, Times, Trailing, Zeros,
+};
+use crate::rows::{Cell, Coding, Formula, Limits};
+use crate::scope::Scope;
+use crate::walk::{Coder, cell, code_cell};
+
+// ---- fields
+
+/// Codes one field at a scope, in a function of its own, so that what walks are compiled to stays small.
+#[inline(never)]
+fn code_cell_outlined<I, C: Coder<I>>(
+    cell: Cell<u32>,
+    scope: &mut Scope,
+    coder: &mut C,
+    items: &mut I,
+) -> Result<(), C::Fault>
+    requires { IsCodable cell.coding }
+    ensures { Walks C.step (field cell (λ v. done (after scope.old cell v))) coder.old items.old (leaving scope.new result) coder.new items.new }
+{
+    code_cell(cell, scope, coder, items)
+}
+
+/// Codes one field, and gives the scope its value.
+#[inline(always)]
+fn code_field<I, C: Coder<I>>(
+    row: &Cell<Formula>,
+    scope: &mut Scope,
+    coder: &mut C,
+    items: &mut I,
+) -> Result<(), C::Fault>
+    ensures { Walks C.step (one_field scope.old row.now) coder.old items.old (leaving scope.new result) coder.new items.new }
+{
+    let cell = cell(scope, row);
+    code_cell_outlined(cell, scope, coder, items)
+}
+
+/// Codes a field of one bit and any value, in a function of its own, and gives the scope its value.
+#[inline(never)]
+fn code_flag<I, C: Coder<I>>(
+    field: u16,
+    kept: bool,
+    scope: &mut Scope,
+    coder: &mut C,
+    items: &mut I,
+) -> Result<(), C::Fault>
+    ensures { Walks C.step (one_field scope.old (flag_cell field kept)) coder.old items.old (leaving scope.new result) coder.new items.new }
+{
+    let cell = Cell {
+        field,
+        kept,
+        coding: Coding::Fixed(1),
+        limits: Limits::Any,
+    };
+    code_cell(cell, scope, coder, items)
+}
+
+// ---- blocks
+
+/// Codes rows where a formula isn't 0.
+#[tactic(auto, using(crate::proofs::ByType::not_there, crate::proofs::Steps::here))]
+#[inline(always)]
+fn code_when<I, C: Coder<I>, B: Rows>(
+    holds: &Formula,
+    block: &B,
+    scope: &mut Scope,
+    coder: &mut C,
+    items: &mut I,
+) -> Result<(), C::Fault>
+    ensures { Walks C.step (present (When holds.now) (form_of B.rows) scope.old) coder.old items.old (leaving scope.new result) coder.new items.new }
+{
+    if scope.number_inlined(holds) == 0 {
+        return Ok(());
+    }
+    block.code(scope, coder, items)
+}
+
+/// Codes rows so many times, with the number of the turn under the counter's name.
+#[inline(always)]
+fn code_repeated<I, C: Coder<I>, B: Rows>(
+    counter: u16,
+    times: &Formula,
+    block: &B,
+    scope: &mut Scope,
+    coder: &mut C,
+    items: &mut I,
+) -> Result<(), C::Fault>
+    ensures { Walks C.step (present (Repeat counter times.now) (form_of B.rows) scope.old) coder.old items.old (leaving scope.new result) coder.new items.new }
+{
+    let times = scope.number_inlined(times);
+    for turn in 0..times {
+        scope.set(counter, turn);
+        block.code(scope, coder, items)?;
+    }
+    Ok(())
+}
+
+// ---- the rows of a table
+
+/// The rows of a table, by type.
+pub trait Rows {
+    ghost use Rattle.std.specs.Prelude.{List};
+    ghost use Rattle.vx_table.specs.declared.rows.Row.{Row};
+    ghost use Rattle.vx_table.specs.Forms.{form_of};
+    ghost use Rattle.vx_table.specs.Walks.{Walks, leaving};
+
+    ghost rows: { List Row };
+
+    /// Codes these rows in order, as [`code_table`](crate::code_table) does.
+    ///
+    /// # Errors
+    ///
+    /// The coder's, at the first field that it refuses.
+    fn code<I, C: Coder<I>>(
+        &self,
+        scope: &mut Scope,
+        coder: &mut C,
+        items: &mut I,
+    ) -> Result<(), C::Fault>
+        ensures { Walks C.step (form_of rows scope.old) coder.old items.old (leaving scope.new result) coder.new items.new };
+}
+
+/// No rows.
+#[derive(Clone, Copy)]
+pub struct NoRow;
+
+impl Rows for NoRow {
+    ghost use Rattle.std.specs.Prelude.{[]};
+
+    ghost rows = { [] };
+
+    #[tactic(auto, using(crate::proofs::ByType::no_row))]
+    #[inline(always)]
+    fn code<I, C: Coder<I>>(
+        &self,
+        scope: &mut Scope,
+        coder: &mut C,
+        items: &mut I,
+    ) -> Result<(), C::Fault> {
+        Ok(())
+    }
+}
+
+/// A field or a gap, and the rows behind it.
+#[derive(Clone, Copy)]
+pub struct FieldThen<F, R> {
+    /// The field.
+    pub field: F,
+    /// The rows behind it.
+    pub rest: R,
+}
+
+impl<F: Constant<Cell<Formula>>, R: Rows> Rows for FieldThen<F, R> {
+    ghost use Rattle.std.specs.Prelude.{◌∷◌};
+    ghost use Rattle.vx_table.specs.declared.rows.Row.TheVariants as row;
+
+    ghost rows = { row.Field F.Constant.value ∷ R.Rows.rows };
+
+    #[tactic(auto, using(crate::proofs::ByType::field_then, crate::proofs::ByType::field_stop))]
+    #[inline(always)]
+    fn code<I, C: Coder<I>>(
+        &self,
+        scope: &mut Scope,
+        coder: &mut C,
+        items: &mut I,
+    ) -> Result<(), C::Fault> {
+        code_field(&F::get(), scope, coder, items)?;
+        self.rest.code(scope, coder, items)
+    }
+}
+
+/// A field of one bit and any value, and the rows behind it.
+#[derive(Clone, Copy)]
+pub struct FlagThen<const FIELD: u16, const KEPT: bool, R> {
+    /// The rows behind it.
+    pub rest: R,
+}
+
+impl<const FIELD: u16, const KEPT: bool, R: Rows> Rows for FlagThen<FIELD, KEPT, R> {
+    ghost use Rattle.std.specs.Prelude.{◌∷◌};
+    ghost use Rattle.vx_table.specs.declared.rows.Row.TheVariants as row;
+    ghost use Rattle.vx_table.specs.inner.ByType.{flag_cell};
+
+    ghost rows = { row.Field (flag_cell FIELD KEPT) ∷ R.Rows.rows };
+
+    #[tactic(auto, using(crate::proofs::ByType::field_then, crate::proofs::ByType::field_stop))]
+    #[inline(always)]
+    fn code<I, C: Coder<I>>(
+        &self,
+        scope: &mut Scope,
+        coder: &mut C,
+        items: &mut I,
+    ) -> Result<(), C::Fault> {
+        code_flag(FIELD, KEPT, scope, coder, items)?;
+        self.rest.code(scope, coder, items)
+    }
+}
+
+/// A name for a number, and the rows behind it.
+#[derive(Clone, Copy)]
+pub struct NameThen<const NAME: u16, F, R> {
+    /// The number.
+    pub formula: F,
+    /// The rows behind it.
+    pub rest: R,
+}
+
+impl<const NAME: u16, F: Constant<Formula>, R: Rows> Rows for NameThen<NAME, F, R> {
+    ghost use Rattle.std.specs.Prelude.{◌∷◌};
+    ghost use Rattle.vx_table.specs.declared.rows.Row.TheVariants as row;
+
+    ghost rows = { row.Name NAME F.Constant.value ∷ R.Rows.rows };
+
+    #[tactic(auto, using(crate::proofs::ByType::name_then))]
+    #[inline(always)]
+    fn code<I, C: Coder<I>>(
+        &self,
+        scope: &mut Scope,
+        coder: &mut C,
+        items: &mut I,
+    ) -> Result<(), C::Fault> {
+        let number = scope.number_inlined(&F::get());
+        scope.set(NAME, number);
+        self.rest.code(scope, coder, items)
+    }
+}
+
+/// A block of rows that is there where a formula isn't 0, and the rows behind it.
+#[derive(Clone, Copy)]
+pub struct WhenThen<F, B, R> {
+    /// The formula.
+    pub holds: F,
+    /// The block.
+    pub block: B,
+    /// The rows behind it.
+    pub rest: R,
+}
+
+impl<F: Constant<Formula>, B: Rows, R: Rows> Rows for WhenThen<F, B, R> {
+    ghost use Rattle.std.specs.Prelude.{◌∷◌, ◌++◌, length};
+    ghost use Rattle.vx_table.specs.declared.rows.Row.TheVariants as row;
+    ghost use Rattle.vx_table.specs.declared.rows.Presence.TheVariants.{When};
+
+    ghost rows = { row.Block (When F.Constant.value) (length B.Rows.rows) ∷ B.Rows.rows ++ R.Rows.rows };
+
+    #[tactic(auto, using(crate::proofs::ByType::block_then, crate::proofs::ByType::block_stop))]
+    #[inline(always)]
+    fn code<I, C: Coder<I>>(
+        &self,
+        scope: &mut Scope,
+        coder: &mut C,
+        items: &mut I,
+    ) -> Result<(), C::Fault> {
+        code_when(&F::get(), &self.block, scope, coder, items)?;
+        self.rest.code(scope, coder, items)
+    }
+}
+
+/// A block of rows that comes so many times, with a counter from 0, and the rows behind it.
+#[derive(Clone, Copy)]
+pub struct RepeatThen<const COUNTER: u16, F, B, R> {
+    /// How often the block comes.
+    pub times: F,
+    /// The block.
+    pub block: B,
+    /// The rows behind it.
+    pub rest: R,
+}
+
+impl<const COUNTER: u16, F: Constant<Formula>, B: Rows, R: Rows> Rows
+    for RepeatThen<COUNTER, F, B, R> {
+    ghost use Rattle.std.specs.Prelude.{◌∷◌, ◌++◌, length};
+    ghost use Rattle.vx_table.specs.declared.rows.Row.TheVariants as row;
+    ghost use Rattle.vx_table.specs.declared.rows.Presence.TheVariants.{Repeat};
+
+    ghost rows = { row.Block (Repeat COUNTER F.Constant.value) (length B.Rows.rows) ∷ B.Rows.rows ++ R.Rows.rows };
+
+    #[tactic(auto, using(crate::proofs::ByType::block_then, crate::proofs::ByType::block_stop))]
+    #[inline(always)]
+    fn code<I, C: Coder<I>>(
+        &self,
+        scope: &mut Scope,
+        coder: &mut C,
+        items: &mut I,
+    ) -> Result<(), C::Fault> {
+        code_repeated(COUNTER, &F::get(), &self.block, scope, coder, items)?;
+        self.rest.code(scope, coder, items)
+    }
+}
+
+// ---- the tables of a structure
+
+/// Where a table is always there.
+pub const ALWAYS: Plain<NO_FIELD, 1> = Plain;
+
+/// Codes a table that is there where a formula isn't 0, as [`code_parts`](crate::code_parts) does.
+///
+/// # Errors
+///
+/// The coder's, at the first field that it refuses.
+#[inline(always)]
+pub fn code_section<I, C: Coder<I>, F: Constant<Formula>, T: Rows>(
+    _holds: &F,
+    table: &T,
+    scope: &mut Scope,
+    coder: &mut C,
+    items: &mut I,
+) -> Result<(), C::Fault>
+    ensures { Walks C.step (present (When F.value) (form_of T.rows) scope.old) coder.old items.old (leaving scope.new result) coder.new items.new }
+{
+    code_when(&F::get(), table, scope, coder, items)
+}
