@@ -10,6 +10,7 @@ mod kept;
 mod laws;
 pub mod limits;
 mod list;
+mod rbsp;
 mod reader;
 mod refusal;
 pub mod rules;
@@ -25,6 +26,7 @@ pub use list::{
     BodyList, ByReference, ByValue, ByteLists, Bytes, CopyList, Entries, Fields, IdList, Item,
     LentList,
 };
+pub use rbsp::{is_rbsp, short_rbsp};
 pub use reader::BitReader;
 pub use refusal::{BitCause, ReadError, Refusal};
 pub use writer::BitWriter;

@@ -2,7 +2,7 @@
 //!
 //! A list type elsewhere is one line, as `pub type RectList = CopyList<Rect>;`, and a struct of its own where it
 //! guards something, as [`Kept`].
-ghost use Rattle.std.specs.Prelude.{◌≡◌, ◌<◌, List, [], ◌∷◌, ◌++◌, length, Some, OnOk, OnErr, slice_get, slice_index_or};
+ghost use Rattle.std.specs.Prelude.{◌≡◌, ◌<◌, List, [], ◌∷◌, ◌++◌, length, Some, IfOk, OnOk, OnErr, slice_get, slice_index_or};
 ghost use Rattle.std.specs.Slice.Iter.{iter_rest};
 ghost use Rattle.std.specs.Iterator.Adapters.{IterYieldsInOrder};
 ghost use Rattle.vx_bits.specs.Fields.{first_value};
@@ -49,7 +49,23 @@ impl<T: Drop, By> Entries<T, By> {
         }
     }
 
-    /// Makes room for sixteen further entries, or twice as many as there are, where there is none.
+    /// An empty list with room for so many entries.
+    ///
+    /// # Errors
+    ///
+    /// Where memory runs out.
+    pub fn with_capacity(alloc: Global, capacity: usize) -> Result<Entries<T, By>, AllocError>
+        ensures { IfOk result (λ list. list ≡ []) }
+    {
+        let mut entries = Vec::new(alloc);
+        entries.reserve(capacity)?;
+        Ok(Entries {
+            entries,
+            by: PhantomData,
+        })
+    }
+
+    /// Where no room is left, makes some for sixteen further entries, or for as many as there are, whichever is more.
     #[inline(always)]
     fn make_room(&mut self) -> Result<(), AllocError>
         ensures { self.new ≡ self.old }
@@ -100,6 +116,19 @@ impl<T: Drop, By> Entries<T, By> {
 }
 
 impl<T: Copy> CopyList<T> {
+    /// A list of the entries of a slice, in order.
+    ///
+    /// # Errors
+    ///
+    /// Where memory runs out.
+    pub fn from_slice(alloc: Global, entries: &[T]) -> Result<CopyList<T>, AllocError>
+        ensures { IfOk result (λ list. list ≡ entries.now) }
+    {
+        let mut list = Entries::new(alloc);
+        list.extend_from_slice(entries)?;
+        Ok(list)
+    }
+
     /// The entry at an index, counted from 0.
     #[inline(always)]
     pub fn item(&self, i: usize) -> T

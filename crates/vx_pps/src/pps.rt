@@ -3,8 +3,9 @@ ghost use Rattle.std.specs.Prelude.{◌≡◌, slice_index};
 ghost use Rattle.vx_table.specs.Loaded as loading;
 
 use crate::partition::Partition;
+use std::alloc::{AllocError, Global};
 use std::marker::Model;
-use vx_bits::Fields;
+use vx_bits::{Bytes, Fields};
 use vx_fields::pps::{
     pps_no_pic_partition_flag, pps_num_ref_idx_default_active_minus1,
     pps_pic_height_in_luma_samples, pps_pic_parameter_set_id, pps_pic_width_in_luma_samples,
@@ -19,7 +20,8 @@ use vx_table::{Scope, natural};
 #[derive(Drop)]
 pub struct Pps {
     fields: Fields,
-    scope: Scope,
+    rbsp: Option<Bytes>,
+    scope: Box<Scope>,
     partition: Partition,
     default_active_0: u32,
     default_active_1: u32,
@@ -29,13 +31,14 @@ impl Model for Pps {
     ghost use Rattle.std.specs.Prelude.{◌≡◌, List};
     ghost use Rattle.vx_bits.specs.declared.list.Item.{Item};
     ghost use Rattle.vx_table.specs.Scope.{fresh, loaded};
-    ghost use Rattle.vx_pps.specs.Pps.{IsPps, default_active};
+    ghost use Rattle.vx_table.specs.ReadFrom.{IsReadFrom};
+    ghost use Rattle.vx_pps.specs.Pps.{IsPps, default_active, pps_form};
 
     ghost Value = { List Item };
 
     ghost view = { λ p. p.fields };
 
-    ghost invariant = { λ p. IsPps p.fields p.partition × (p.scope ≡ loaded fresh p.fields) × (p.default_active_0 ≡ default_active p.fields 0) × (p.default_active_1 ≡ default_active p.fields 1) };
+    ghost invariant = { λ p. IsPps p.fields p.partition × (p.scope.value ≡ loaded fresh p.fields) × (p.default_active_0 ≡ default_active p.fields 0) × (p.default_active_1 ≡ default_active p.fields 1) × IsReadFrom pps_form p.rbsp p.fields };
 }
 
 /// The number of a field's item, counted from 0 among those of this field; 0 where there are fewer.
@@ -56,30 +59,38 @@ fn number_at(fields: &Fields, field: u16, index: usize) -> u32
 }
 
 impl Pps {
-    ghost use Rattle.std.specs.Prelude.{◌≡◌, ◌<◌, option_copied};
+    ghost use Rattle.std.specs.Prelude.{◌≡◌, ◌<◌, option_copied, IfOk};
     ghost use Rattle.vx_table.specs.Loaded.{number};
     ghost use Rattle.vx_table.specs.Scope.{fresh, loaded};
     ghost use Rattle.vx_fields.specs.declared.pps.TheConstants as names;
     ghost use Rattle.vx_pps.specs.Pps as set;
-    ghost use Rattle.vx_pps.specs.Pps.{IsPps};
+    ghost use Rattle.vx_table.specs.ReadFrom.{IsReadFrom};
+    ghost use Rattle.vx_pps.specs.Pps.{IsPps, pps_form};
 
-    /// The set of these items, which has these tiles and slices.
-    pub(crate) fn new(fields: Fields, partition: Partition) -> Pps
-        requires { IsPps fields partition }
-        ensures { result ≡ fields }
+    /// The set of these items, which has these tiles and slices, and was read from this RBSP, where it is given.
+    pub(crate) fn new(
+        alloc: Global,
+        fields: Fields,
+        partition: Partition,
+        rbsp: Option<Bytes>,
+    ) -> Result<Pps, AllocError>
+        requires set { IsPps fields partition }
+        requires read { IsReadFrom pps_form rbsp fields }
+        ensures { IfOk result (λ made. made ≡ fields) }
     {
-        let mut scope = Scope::new();
+        let mut scope = Box::new(alloc, Scope::new())?;
         scope.load(&fields);
         let field = pps_num_ref_idx_default_active_minus1;
         let default_active_0 = number_at(&fields, field, 0);
         let default_active_1 = number_at(&fields, field, 1);
-        Pps {
+        Ok(Pps {
             fields,
+            rbsp,
             scope,
             partition,
             default_active_0,
             default_active_1,
-        }
+        })
     }
 
     /// Its items, as H.266 orders them.
@@ -88,6 +99,13 @@ impl Pps {
         ensures set { set.ArePpsItems result.now }
     {
         &self.fields
+    }
+
+    /// The RBSP that it was read from (H.266 7.3.2.5), where that has at most 1,024 bytes; `None` of a longer one, and of a set that was put together.
+    pub fn rbsp(&self) -> Option<&Bytes>
+        ensures { IsReadFrom pps_form (option_copied result) self.now }
+    {
+        self.rbsp.as_ref()
     }
 
     /// The numbers of its fields, from which headers are read.

@@ -1,15 +1,31 @@
 //! Reading, writing and sifting a picture parameter set.
-ghost use Rattle.std.specs.Prelude.{◌≡◌, ◌≤◌, length, IfOk};
+ghost use Rattle.std.specs.Prelude.{◌≡◌, ◌≤◌, length, IfOk, Ok};
 ghost use Rattle.vx_bits.specs.Limits.{unit_limit};
 ghost use Rattle.vx_table.specs.Reading.{ReadsValue};
-ghost use Rattle.vx_pps.specs.Pps.{IsPpsSpelling, ReadsFields, kept_pps_items, pps_form};
+ghost use Rattle.vx_pps.specs.Pps.{IsPps, IsPpsSpelling, ReadsFields, kept_pps_items, pps_form};
 
 use crate::halt::{Halt, memory_of};
+use crate::partition::Partition;
 use crate::pps::Pps;
 use crate::walk::code_pps;
 use std::alloc::{AllocError, Global};
-use vx_bits::{BitReader, BitWriter, Fields, ReadError};
+use vx_bits::{BitReader, BitWriter, Fields, ReadError, short_rbsp};
 use vx_table::Unwritten;
+
+/// The set of items that were read from an RBSP.
+fn set_of(
+    alloc: Global,
+    fields: Fields,
+    partition: Partition,
+    rbsp: &[u8],
+) -> Result<Pps, AllocError>
+    requires set { IsPps fields partition }
+    requires read { ReadsValue pps_form rbsp.now (Ok fields) }
+    ensures { IfOk result (λ made. made ≡ fields) }
+{
+    let short = short_rbsp(alloc, rbsp)?;
+    Pps::new(alloc, fields, partition, short)
+}
 
 /// Reads a picture parameter set, `pic_parameter_set_rbsp()`, clause 7.3.2.5, from an RBSP of at most 2^23 bytes.
 ///
@@ -23,7 +39,10 @@ pub fn read_pps(alloc: Global, rbsp: &[u8]) -> Result<Pps, ReadError>
     let mut bits = BitReader::new(rbsp);
     let mut fields = Fields::new(alloc);
     match code_pps(alloc, &mut bits, &mut fields) {
-        Ok(partition) => Ok(Pps::new(fields, partition)),
+        Ok(partition) => match set_of(alloc, fields, partition, rbsp) {
+            Ok(pps) => Ok(pps),
+            Err(_) => Err(ReadError::Memory),
+        },
         Err(Halt::Memory) => Err(ReadError::Memory),
         Err(Halt::Refused(error)) => Err(error),
     }

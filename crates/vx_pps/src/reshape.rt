@@ -201,7 +201,7 @@ fn put_together(
     let mut rewriter = Rewriter::new(names, shown, others);
     let mut items = Fields::new(alloc);
     match code_pps(alloc, &mut rewriter, &mut items) {
-        Ok(partition) => Ok(Some(Pps::new(items, partition))),
+        Ok(partition) => Ok(Some(Pps::new(alloc, items, partition, None)?)),
         Err(halt) => unmade(halt),
     }
 }

@@ -13,7 +13,7 @@ ghost use Rattle.vx_sps.specs.Depends.{kept_sps_items};
 use crate::sps::Sps;
 use crate::walk::code_sps;
 use std::alloc::{AllocError, Global};
-use vx_bits::{BitReader, BitWriter, Fields, ReadError};
+use vx_bits::{BitReader, BitWriter, Fields, ReadError, short_rbsp};
 use vx_table::{Scope, SpellError, Unwritten, only_memory};
 
 /// Reads a set's items, and appends them.
@@ -71,10 +71,8 @@ pub fn read_sps(alloc: Global, rbsp: &[u8]) -> Result<Sps, ReadError>
     ensures { ReadsValue sps_form rbsp.now result }
 {
     let items = read_items(alloc, rbsp)?;
-    match Sps::new(alloc, items) {
-        Ok(sps) => Ok(sps),
-        Err(_) => Err(ReadError::Memory),
-    }
+    let short = short_rbsp(alloc, rbsp)?;
+    Ok(Sps::new(alloc, items, short)?)
 }
 
 /// Writes a sequence parameter set: its RBSP.

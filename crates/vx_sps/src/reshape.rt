@@ -316,7 +316,7 @@ pub fn reshape_sps(alloc: Global, sps: &Sps, shape: &SpsShape) -> Result<Sps, Al
     let stated = stated_items(alloc, sps, shape)?;
     let mut items = Fields::new(alloc);
     match rewrite(names.as_slice(), &taken, &stated, &mut items) {
-        Ok(()) => Sps::new(alloc, items),
+        Ok(()) => Sps::new(alloc, items, None),
         Err(error) => Err(only_memory(error)),
     }
 }

@@ -10,7 +10,7 @@ ghost use Rattle.vx_fields.specs.declared.sps.TheConstants as sps;
 use crate::subpictures::{Subpicture, subpictures};
 use std::alloc::{AllocError, Global};
 use std::marker::Model;
-use vx_bits::{CopyList, Fields};
+use vx_bits::{Bytes, CopyList, Fields};
 use vx_fields::sps::{
     sps_extra_ph_bit_present_flag, sps_extra_sh_bit_present_flag, sps_log2_ctu_size_minus5,
     sps_log2_max_pic_order_cnt_lsb_minus4, sps_long_term_ref_pics_flag, sps_num_subpics_minus1,
@@ -27,7 +27,8 @@ use vx_table::{Scope, natural, quotient};
 #[derive(Drop)]
 pub struct Sps {
     fields: Fields,
-    scope: Scope,
+    rbsp: Option<Bytes>,
+    scope: Box<Scope>,
     subpictures: CopyList<Subpicture>,
     table: RplTable,
     extra_ph_bits: u32,
@@ -43,7 +44,7 @@ impl Model for Sps {
 
     ghost view = { λ s. s.fields };
 
-    ghost invariant = { λ s. IsKept s.fields s.scope s.subpictures s.table s.extra_ph_bits s.extra_sh_bits };
+    ghost invariant = { λ s. IsKept s.fields s.rbsp s.scope.value s.subpictures s.table s.extra_ph_bits s.extra_sh_bits };
 }
 
 /// How many flags of a field are 1.
@@ -89,7 +90,7 @@ fn structures(alloc: Global, fields: &Fields, scope: &Scope) -> Result<RplTable,
 }
 
 impl Sps {
-    ghost use Rattle.std.specs.Prelude.{◌≡◌, ◌<◌, ◌≤◌, IfOk};
+    ghost use Rattle.std.specs.Prelude.{◌≡◌, ◌<◌, ◌≤◌, IfOk, option_copied};
     ghost use Rattle.vx_fields.specs.declared.sps.TheConstants as sps;
     ghost use Rattle.vx_table.specs.Scope.{fresh, loaded};
     ghost use Rattle.vx_table.specs.Loaded.{number};
@@ -98,13 +99,16 @@ impl Sps {
     ghost use Rattle.vx_sps.specs.Subpictures as pictures;
     ghost use Rattle.vx_sps.specs.inner.Kept.{subpicture_of};
     ghost use Rattle.vx_sps.specs.Subpictures.{subpics_of};
+    ghost use Rattle.vx_sps.specs.Structure.{sps_form};
+    ghost use Rattle.vx_table.specs.ReadFrom.{IsReadFrom};
 
-    /// The set of these items.
-    pub(crate) fn new(alloc: Global, fields: Fields) -> Result<Sps, AllocError>
-        requires { set.AreSpsItems fields }
+    /// The set of these items, which were read from this RBSP, where it is given.
+    pub(crate) fn new(alloc: Global, fields: Fields, rbsp: Option<Bytes>) -> Result<Sps, AllocError>
+        requires items { set.AreSpsItems fields }
+        requires read { IsReadFrom sps_form rbsp fields }
         ensures { IfOk result (λ made. made ≡ fields) }
     {
-        let mut scope = Scope::new();
+        let mut scope = Box::new(alloc, Scope::new())?;
         scope.load(&fields);
         let ctb = ctb_size(&scope);
         let columns = quotient(scope.latest(sps_pic_width_max_in_luma_samples), ctb);
@@ -115,6 +119,7 @@ impl Sps {
         let extra_sh_bits = set_flags(sps_extra_sh_bit_present_flag, &fields);
         Ok(Sps {
             fields,
+            rbsp,
             scope,
             subpictures,
             table,
@@ -129,6 +134,13 @@ impl Sps {
         ensures set { set.AreSpsItems result.now }
     {
         &self.fields
+    }
+
+    /// The RBSP that it was read from (H.266 7.3.2.4), where that has at most 1,024 bytes; `None` of a longer one, and of a set that was put together.
+    pub fn rbsp(&self) -> Option<&Bytes>
+        ensures { IsReadFrom sps_form (option_copied result) self.now }
+    {
+        self.rbsp.as_ref()
     }
 
     /// The numbers of its fields, from which headers are read.

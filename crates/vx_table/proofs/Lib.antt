@@ -29,6 +29,7 @@ pub mod Items
 pub mod Numbers
 pub mod Apart
 pub mod Blocks
+pub mod ReadFrom
 pub mod Readings
 pub mod PassingOver
 pub mod Steps

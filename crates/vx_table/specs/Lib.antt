@@ -8,6 +8,7 @@ pub mod EachField
 pub mod Depends
 pub mod Claims
 pub mod Named
+pub mod ReadFrom
 pub mod Reading
 pub mod Values
 pub mod Writing

@@ -1,12 +1,14 @@
 -- What a set keeps of its items, computed once.
-use Rattle.std.specs.Prelude.{◌≡◌, ℕ, ◌<◌, Bool, List, length, slice_get, Some}
+use Rattle.std.specs.Prelude.{◌≡◌, ℕ, ◌<◌, Bool, List, Option, length, slice_get, Some}
 use Rattle.vx_bits.specs.declared.list.Item.{Item}
 use Rattle.vx_fields.specs.declared.sps.TheConstants as sps
 use Rattle.vx_rpl.specs.declared.entry.RplTable.{RplTable}
 use Rattle.vx_rpl.specs.Resolved.{table_of}
 use Rattle.vx_table.specs.Loaded.{number}
+use Rattle.vx_table.specs.ReadFrom.{IsReadFrom}
 use Rattle.vx_table.specs.Scope.{fresh, loaded, is_set}
 use Rattle.vx_sps.specs.declared.subpictures.Subpicture.{Subpicture}
+use Rattle.vx_sps.specs.Structure.{sps_form}
 use Rattle.vx_sps.specs.Set.{AreSpsItems, ctu_columns_of, ctu_rows_of, is_weighted, extra_ph_bits_of, extra_sh_bits_of}
 use Rattle.vx_sps.specs.Subpictures.{subpics_of, rect_of, is_treated, is_filtered, sps_subpic_id_of}
 use Rattle.vx_table.specs.Loaded.{numbers_of}
@@ -39,9 +41,10 @@ pub record AreSubpictures (items : List Item) (n : ℕ) (list : List Subpicture)
   pub count : length list ≡ n
   pub each : (i : ℕ) → i < n → slice_get list i ≡ Some (subpicture_of items i)
 
--- All that is kept is what the items of a set tell.
-pub record IsKept (items : List Item) (scope : List ℕ) (list : List Subpicture) (structures : RplTable) (in_ph in_sh : ℕ) : Type 0 where
+-- All that is kept is what the items of a set tell; the RBSP, where it is known, is read as them.
+pub record IsKept (items : List Item) (rbsp : Option (List ℕ)) (scope : List ℕ) (list : List Subpicture) (structures : RplTable) (in_ph in_sh : ℕ) : Type 0 where
   pub set : AreSpsItems items
+  pub read : IsReadFrom sps_form rbsp items
   pub numbers : scope ≡ loaded fresh items
   pub subpictures : AreSubpictures items (subpics_of items) list
   pub table : structures ≡ table_of (is_weighted items) items

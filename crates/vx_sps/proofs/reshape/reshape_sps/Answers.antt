@@ -3,8 +3,8 @@ use Rattle.std.proofs.Common.{◌∙◌}
 use Rattle.vx_sps.proofs.Exists.{reshapes, reshaped_set, is_made}
 use Rattle.vx_sps.proofs.reshape.reshape_sps.Goals as goal
 
-pub new-requires : goal.new-requires
-new-requires c =
+pub new-requires-clause-items : goal.new-requires-clause-items
+new-requires-clause-items c =
     let is = reshapes c.rewrite.new.into c.rewrite.result c.fields.ensures.items c.fields.ensures.set c.requires c.in_ok-stated.ensures.level (c.as_slice.ensures ∙ c.in_ok-names.ensures) c.in_ok-taken.ensures c.in_ok-stated.ensures.items
     c.rewrite.ensures in
     reshaped_set c.args.sps.now c.rewrite.new.into c.args.shape.now (rw c.in-Ok.is at is)
