@@ -18,6 +18,9 @@ use vx_fields::sh::{sh_picture_header_in_slice_header_flag, sh_slice_address};
 use vx_rpl::resolve_lists;
 use vx_table::Scope;
 
+/// As many items as slice headers mostly have at most.
+const USUAL_ITEMS: usize = 64;
+
 /// Passes over the picture header, where it stands inside.
 fn pass_inside(n: &Context<'_>, scope: &Scope, bits: &mut BitReader<'_>) -> Result<(), ReadError>
     ensures { IsPassed (header_inside n.now.table.now n.now.sets.now scope.now) scope.now bits.old result bits.new }
@@ -94,7 +97,7 @@ pub(crate) fn read_slice_at(
     ensures { ReadsSlice (at_of n.now scope.old) rbsp.now result }
 {
     let mut bits = BitReader::new(rbsp);
-    let mut fields = Fields::new(alloc);
+    let mut fields = Fields::with_capacity(alloc, USUAL_ITEMS)?;
     read_fields(n, scope, &mut bits, &mut fields)?;
     let lists = resolve_lists(alloc, n.table, n.sets, fields.as_slice())?;
     let size = (bits.at() / 8) as usize;
