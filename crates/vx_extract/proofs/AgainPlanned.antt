@@ -1,9 +1,7 @@
 -- What is written for the pictures of a stream is as plans have to be, so that it is read again.
 use Rattle.std.proofs.Common.{◌≡◌, ℕ, ◌<◌, true, false, not, List, [], ◌∷◌, map, Option, refl, ap, sym, subst, arith}
 use Rattle.std.specs.List.{AllByRecursion}
-use Rattle.std.proofs.lemmas.Bool.{eq-eqb, not-false}
-use Rattle.std.proofs.lemmas.Bool.Decides.{Decides-int_eq}
-use Rattle.vx_bits.specs.declared.list.Item.{Item}
+use Rattle.std.proofs.lemmas.Bool.{not-false}
 use Rattle.vx_pps.specs.laws.Sets.{SetsTellPartitions}
 use Rattle.vx_pic.specs.Sets.{names_of, same_items}
 use Rattle.vx_pic.specs.Readings.{Picture, Slice, is_whole, messages_of}
@@ -16,6 +14,7 @@ use Rattle.vx_pic.specs.Finished.{AreFinished, IsSoundPicture}
 use Rattle.vx_pic.specs.laws.Edited.{AreEdits, EditsArePlanned}
 use Rattle.vx_pic.specs.Written.{Plan, Says, SetUnit, planned_slices}
 use Rattle.vx_pic.specs.Resident.{AreAllPlanned, HaveNamed, IsPlanned, is_resident, planned_of, sent_before}
+use Rattle.vx_pic.proofs.SameItems.{same_itself}
 use Rattle.vx_pic.proofs.Sent.{items_are}
 use Rattle.vx_pic.proofs.Sublayers.{low_tid}
 use Rattle.vx_write.specs.Again.{IsReadable, SeiUnitsAreRead, SetUnitsAreRead}
@@ -25,10 +24,6 @@ use Rattle.vx_extract.specs.Written.{AreExtracted, IsExtracted}
 use Rattle.vx_extract.specs.Again.{ExtractedHasItsBodies, ExtractedIsAlike, ExtractedIsWhole, ExtractedSendsItsSets, ExtractedUnitsAreRead, IsReady}
 use Rattle.vx_extract.proofs.AgainSame.{same_again}
 use Rattle.vx_write.proofs.Sizes.{subpics_count}
-
-same_itself : (items : List Item) → same_items items items ≡ true
-same_itself [] = refl
-same_itself (x ∷ items) = rw (eq-eqb x.field x.field refl, (Decides-int_eq x.value x.value).1 refl) (same_itself items)
 
 module _ (R : Readers) (of : AreOfH266 R) (target : ℕ) (tells : SetsTellPartitions) (units_read : ExtractedUnitsAreRead) (wholes : ExtractedIsWhole) (sends : ExtractedSendsItsSets) (alikes : ExtractedIsAlike) (bodies : ExtractedHasItsBodies)
     (sets_read : SetUnitsAreRead) (sei_reads : SeiUnitsAreRead) (level : Option ℕ) where

@@ -53,11 +53,11 @@ moved target level q p made is sps pps layout ids =
 
 -- kept sets are those of a picture with the same items
 pub kept_of : (target : ℕ) (level : Option ℕ) (p : Parts) (made : Rewritten) → IsRewriting target level made
-    → (same_items made.source_sps p.sps && same_items made.source_pps p.pps) ≡ true
+    → (same_items made.source.sps p.sps && same_items made.source.pps p.pps) ≡ true
     → p.layout ≡ numbers_in p.sps p.pps → p.ids ≡ ids_of p.sps p.pps → IsRewritingOf target level p made
 kept_of target level p made kept same layout ids =
-    let parts = both (same_items made.source_sps p.sps) (same_items made.source_pps p.pps) same in
+    let parts = both (same_items made.source.sps p.sps) (same_items made.source.pps p.pps) same in
     let is = kept.is in
-    let sps : kept.picture.sps ≡ p.sps = sym is.source_sps ∙ items_are made.source_sps p.sps parts.0 in
-    let pps : kept.picture.pps ≡ p.pps = sym is.source_pps ∙ items_are made.source_pps p.pps parts.1 in
+    let sps : kept.picture.sps ≡ p.sps = sym is.source_sps ∙ items_are made.source.sps p.sps parts.0 in
+    let pps : kept.picture.pps ≡ p.pps = sym is.source_pps ∙ items_are made.source.pps p.pps parts.1 in
     moved target level kept.picture p made is sps pps layout ids

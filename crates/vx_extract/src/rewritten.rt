@@ -7,19 +7,15 @@ ghost use Rattle.vx_extract.specs.inner.Rewritings.{IsRewriting, IsRewritingOf};
 
 use crate::shapes::{rewritten_pps, rewritten_sps};
 use std::alloc::{AllocError, Global};
-use vx_bits::Fields;
-use vx_pic::{Picture, same_items};
+use vx_pic::{Picture, SetsKey};
 use vx_pps::Pps;
 use vx_sps::Sps;
-use vx_write::copied;
 
 /// The two sets that are sent for a subpicture of pictures with two sets.
 #[derive(Drop)]
 pub(crate) struct Rewritten {
-    /// The items of the SPS of the pictures.
-    source_sps: Fields,
-    /// The items of their PPS.
-    source_pps: Fields,
+    /// The key of the pictures' sets.
+    source: SetsKey,
     /// The SPS that is sent.
     pub(crate) sps: Sps,
     /// The PPS that is sent.
@@ -46,29 +42,17 @@ fn rewritten_for(
     ensures { IfOk result (λ made. IsRewritingOf target level picture.now made) }
 {
     sets_tell(picture);
-    let source_sps = copied(alloc, picture.sps().fields())?;
-    let source_pps = copied(alloc, picture.pps().fields())?;
+    let source = SetsKey::new(alloc, picture.sps(), picture.pps())?;
     let sps = rewritten_sps(alloc, picture, target, level)?;
     let pps = rewritten_pps(alloc, picture, target)?;
-    Ok(Rewritten {
-        source_sps,
-        source_pps,
-        sps,
-        pps,
-    })
+    Ok(Rewritten { source, sps, pps })
 }
 
 /// Whether these sets are those of a picture with the same two sets.
 fn is_of(kept: &Rewritten, picture: &Picture<'_>) -> bool
-    ensures { result ≡ (sets.same_items kept.now.source_sps picture.now.sps && sets.same_items kept.now.source_pps picture.now.pps) }
+    ensures { result ≡ (sets.same_items kept.now.source.sps picture.now.sps && sets.same_items kept.now.source.pps picture.now.pps) }
 {
-    same_items(
-        kept.source_sps.as_slice(),
-        picture.sps().fields().as_slice(),
-    ) && same_items(
-        kept.source_pps.as_slice(),
-        picture.pps().fields().as_slice(),
-    )
+    kept.source.is_of(picture.sps(), picture.pps())
 }
 
 /// The sets that are sent for a picture: the kept ones, where the picture has the same two sets.

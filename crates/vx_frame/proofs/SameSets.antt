@@ -1,7 +1,8 @@
 -- What the sets of a round alone tell is the same of rounds that have the same sets.
 use Rattle.std.proofs.Common.{◌≡◌, ◌≢◌, ℕ, zero, suc, ◌+◌, ◌<◌, ◌≤◌, Bool, true, false, cond, List, [], ◌∷◌, ◌++◌, map, length, Option, Some, None, IfSome, refl, sym, ap, ap₂, subst, ◌∙◌, inl, inr, arith}
 use Rattle.std.proofs.Math.Path.{fun_ext}
-use Rattle.std.specs.Prelude.{◌==◌, ◌⊎◌, IsTrue, sum_by, unwrap_or}
+use Rattle.std.specs.Prelude.{◌==◌, ◌&&◌, ◌⊎◌, IsTrue, sum_by, unwrap_or}
+use Rattle.std.specs.Bool.{OnTrue}
 use Rattle.std.specs.List.{AllByRecursion, AllZip}
 use Rattle.std.specs.Option.{option_or}
 use Rattle.std.specs.Global.{Box}
@@ -32,17 +33,19 @@ use Rattle.vx_sps.specs.Reshaped as sps_reshaped
 use Rattle.vx_pps.specs.declared.shape.PpsShape.{PpsShape}
 use Rattle.vx_pps.specs.Reshaped as pps_reshaped
 use Rattle.vx_pic.specs.Differences.{differing_field}
+use Rattle.vx_pic.specs.Keys.{SetItems}
 use Rattle.vx_pic.specs.Parts.{Parts}
 use Rattle.vx_pic.specs.PictureLayout.{numbers_in}
-use Rattle.vx_pic.specs.Sets.{signed}
+use Rattle.vx_pic.specs.Sets.{same_items, signed}
+use Rattle.vx_pic.proofs.Sent.{items_are}
 use Rattle.vx_write.specs.InForce.{AreInForce}
+use Rattle.vx_write.proofs.Held.{both}
 use Rattle.vx_frame.specs.declared.corner.Corner.{Corner}
 use Rattle.vx_frame.specs.declared.geometry.FrameGeometry.{FrameGeometry}
 use Rattle.vx_frame.specs.declared.frame.Frame.{Frame}
 use Rattle.vx_frame.specs.declared.frame.RenamedPps.{RenamedPps}
 use Rattle.vx_frame.specs.declared.frame.RoundFrame.{RoundFrame}
 use Rattle.vx_frame.specs.declared.frame.RoundFrame.TheVariants.{Kept, New}
-use Rattle.vx_frame.specs.declared.frame.SourceSets.{SourceSets}
 use Rattle.vx_frame.specs.Corners.{AreCorners}
 use Rattle.vx_frame.specs.Regions.{corners_in, ctb_of, layout_of, layouts_in, placed_at, placed_in}
 use Rattle.vx_frame.specs.Rounds.{no_picture, picture_at}
@@ -117,10 +120,18 @@ level_sets level round = ap (λ ns. unwrap_or level (greatest ns)) (numbers_sets
 
 -- ---- of sets that are kept
 
-pub sets_alike : (q : Parts) (x : SourceSets) → x.sps ≡ q.sps → x.pps ≡ q.pps → q.layout ≡ numbers_in q.sps q.pps → sets_in x ≡ sets_of q
+pub sets_alike : (q : Parts) (x : SetItems) → x.sps ≡ q.sps → x.pps ≡ q.pps → q.layout ≡ numbers_in q.sps q.pps → sets_in x ≡ sets_of q
 sets_alike q x of_sps of_pps layout =
     ap₂ (λ (s p : List Item). record no_picture { sps = s; pps = p; layout = numbers_in s p }) of_sps of_pps
     ∙ ap (λ (n : Numbers). record no_picture { sps = q.sps; pps = q.pps; layout = n }) (sym layout)
+
+-- that are known again
+pub known_alike : (q : Parts) (x : SetItems) (t : Bool) → t ≡ (same_items x.sps q.sps && same_items x.pps q.pps) → q.layout ≡ numbers_in q.sps q.pps
+    → OnTrue t (sets_in x ≡ sets_of q)
+known_alike q x true is layout =
+    let parts = both (same_items x.sps q.sps) (same_items x.pps q.pps) (sym is) in
+    sets_alike q x (items_are x.sps q.sps parts.0) (items_are x.pps q.pps parts.1) layout
+known_alike q x false is layout = tt
 
 -- ---- of two rounds with the same sets
 

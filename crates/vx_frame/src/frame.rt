@@ -14,24 +14,13 @@ ghost use Rattle.vx_frame.specs.inner.Geometry.{IsRoundGeometry, IsSomeGeometry,
 use crate::corner::Corner;
 use crate::frame_sets::{copied_numbers, frame_pps, frame_sps};
 use crate::geometry::{FrameGeometry, frame_geometry};
-use crate::items::same_items;
 use crate::regions::too_many_slices;
 use std::alloc::{AllocError, Global};
-use vx_bits::Fields;
 use vx_layout::{Layout, LayoutError};
-use vx_pic::Picture;
+use vx_pic::{Picture, SetsKey};
 use vx_pps::Pps;
 use vx_sps::Sps;
-use vx_write::{WriteError, copied, sets_in_force};
-
-/// The items of the sets of a source's picture.
-#[derive(Drop)]
-pub(crate) struct SourceSets {
-    /// Of the SPS.
-    pub(crate) sps: Fields,
-    /// Of the PPS.
-    pub(crate) pps: Fields,
-}
+use vx_write::{WriteError, sets_in_force};
 
 /// The frame's PPS with another id than 0.
 #[derive(Drop)]
@@ -45,8 +34,8 @@ pub(crate) struct RenamedPps {
 /// The frame of a round, made of its sets alone: kept as long as these stay.
 #[derive(Drop)]
 pub struct Frame {
-    /// The sets of each source.
-    pub(crate) sources: Vec<SourceSets>,
+    /// The key of each source's sets.
+    pub(crate) sources: Vec<SetsKey>,
     /// Its geometry.
     pub geometry: FrameGeometry,
     /// Its layout.
@@ -70,18 +59,17 @@ pub(crate) enum RoundFrame {
 
 // ---- the sets of a round
 
-/// The sets of a picture.
-fn sets_of(alloc: Global, picture: &Picture<'_>) -> Result<SourceSets, AllocError>
+/// The key of a picture's sets.
+fn sets_of(alloc: Global, picture: &Picture<'_>) -> Result<SetsKey, AllocError>
     requires { AreInForce picture.now }
     ensures { IfOk result (λ own. words.sets_in own ≡ words.sets_of picture.now) }
 {
-    let sps = copied(alloc, picture.sps().fields())?;
-    let pps = copied(alloc, picture.pps().fields())?;
-    Ok(SourceSets { sps, pps })
+    let key = SetsKey::new(alloc, picture.sps(), picture.pps())?;
+    Ok(key)
 }
 
-/// The sets of each picture.
-fn sources(alloc: Global, round: &[Picture<'_>]) -> Result<Vec<SourceSets>, AllocError>
+/// The key of each picture's sets.
+fn sources(alloc: Global, round: &[Picture<'_>]) -> Result<Vec<SetsKey>, AllocError>
     requires { All AreInForce round.now }
     ensures { IfOk result (λ own. AreSetsOf round.now own.items) }
 {
@@ -93,23 +81,17 @@ fn sources(alloc: Global, round: &[Picture<'_>]) -> Result<Vec<SourceSets>, Allo
 }
 
 /// Whether a picture has these sets.
-fn has_sets(picture: &Picture<'_>, own: &SourceSets) -> bool
+fn has_sets(picture: &Picture<'_>, own: &SetsKey) -> bool
     ensures same { OnTrue result (words.sets_in own.now ≡ words.sets_of picture.now) }
     ensures sets { AreInForce picture.now }
 {
     // It reads nothing: what is known of a picture is told by its calls alone.
     sets_in_force(picture);
-    if !same_items(&own.sps, picture.sps().fields()) {
-        return false;
-    }
-    if !same_items(&own.pps, picture.pps().fields()) {
-        return false;
-    }
-    true
+    own.is_of(picture.sps(), picture.pps())
 }
 
 /// Whether the pictures of a round have these sets.
-fn have_sets(round: &[Picture<'_>], sources: &[SourceSets]) -> bool
+fn have_sets(round: &[Picture<'_>], sources: &[SetsKey]) -> bool
     requires { length sources.now ≡ length round.now }
     ensures same { OnTrue result (AreSetsOf round.now sources.now) }
     ensures sets { OnTrue result (All AreInForce round.now) }

@@ -50,8 +50,8 @@ bare_reaches here = here
 bare_reaches (later begins more) = later begins (bare_reaches more)
 
 -- two values
-same_items : {A : Type 0} {form : Form A} {place : Place} {items others : List Item} → BeginsItems form place items → BeginsItems form place others → items ≡ others
-same_items {form} {place} one two =
+pub one_value : {A : Type 0} {form : Form A} {place : Place} {items others : List Item} → BeginsItems form place items → BeginsItems form place others → items ≡ others
+one_value {form} {place} one two =
     let same = reads_one_way (bare form) place.total one.values two.values place.left one.rest two.rest (bare_spells one.spelled) (bare_spells two.spelled) in
     one.all ∙ ap (λ v. items_along form v) same.0 ∙ sym two.all
 
@@ -67,14 +67,14 @@ same_refusal {form} {place} {q} {r} one two =
     (once.1 two.cell r (bare_reaches two.reached) two.refused).3
 
 pub one_at : {A : Type 0} (form : Form A) (place : Place) → AtMostOne (AnswersAt form place)
-one_at form place (Ok items) (Ok others) one two = ap (λ (xs : List Item). let r : Result (List Item) Refusal = Ok xs in r) (same_items one two)
+one_at form place (Ok items) (Ok others) one two = ap (λ (xs : List Item). let r : Result (List Item) Refusal = Ok xs in r) (one_value one two)
 one_at form place (Ok items) (Err r) one two = absurd (not_refused one two)
 one_at form place (Err r) (Ok items) one two = absurd (not_refused two one)
 one_at form place (Err q) (Err r) one two = ap (λ (p : Refusal). let e : Result (List Item) Refusal = Err p in e) (same_refusal one two)
 
 pub one_id : (inside : Bool) (rbsp : List ℕ) → AtMostOne (IsReferredPps inside rbsp)
 one_id inside rbsp (Ok id) (Ok other) one two =
-    ap (λ (n : ℕ). let r : Result ℕ Refusal = Ok n in r) (one.2 ∙ ap (λ (xs : List Item). number xs ph_pic_parameter_set_id) (same_items one.1 two.1) ∙ sym two.2)
+    ap (λ (n : ℕ). let r : Result ℕ Refusal = Ok n in r) (one.2 ∙ ap (λ (xs : List Item). number xs ph_pic_parameter_set_id) (one_value one.1 two.1) ∙ sym two.2)
 one_id inside rbsp (Ok id) (Err r) one two = absurd (not_refused one.1 two)
 one_id inside rbsp (Err r) (Ok id) one two = absurd (not_refused two.1 one)
 one_id inside rbsp (Err q) (Err r) one two = ap (λ (p : Refusal). let e : Result ℕ Refusal = Err p in e) (same_refusal one two)

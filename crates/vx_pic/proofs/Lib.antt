@@ -15,6 +15,7 @@ pub mod Listed
 pub mod Sizes
 pub mod PictureSizes
 pub mod Determined
+pub mod Keyed
 pub mod Deciding
 pub mod Distinct
 pub mod Existing

@@ -1,5 +1,5 @@
 -- Lists of items that are compared item by item.
-use Rattle.std.proofs.Common.{◌≡◌, ℕ, ◌+◌, ◌≤◌, Bool, true, false, ◌&&◌, List, length, drop, refl, sym, ◌∙◌, ap, arith, inl, inr}
+use Rattle.std.proofs.Common.{◌≡◌, ℕ, ◌+◌, ◌≤◌, Bool, true, false, ◌&&◌, List, [], ◌∷◌, length, drop, refl, sym, ◌∙◌, ap, arith, inl, inr}
 use Rattle.std.specs.Prelude.{Some, slice_get}
 use Rattle.std.proofs.lemmas.Bool.{cases_Bool}
 use Rattle.vx_bits.specs.declared.list.Item.{Item}
@@ -7,6 +7,10 @@ use Rattle.vx_table.proofs.Places.{dropped_all, dropped_at}
 use Rattle.vx_pic.specs.Sets.{same_item, same_items}
 use Rattle.vx_pic.proofs.Sent.{item_is, items_are}
 use Rattle.vx_pic.proofs.Comparing.{same_self}
+
+pub same_itself : (items : List Item) → same_items items items ≡ true
+same_itself [] = refl
+same_itself (x ∷ items) = rw (same_self x) (same_itself items)
 
 -- lists of different lengths
 pub items_longer : (items others : List Item) → (length items ≡ length others → ⊥) → false ≡ same_items items others

@@ -2,6 +2,7 @@
 pub mod Answers
 pub mod Units
 pub mod Sets
+pub mod Keys
 pub mod Readings
 pub mod Counts
 pub mod Counted

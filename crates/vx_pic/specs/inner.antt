@@ -3,3 +3,4 @@ pub mod Layout
 pub mod Bodies
 pub mod Compared
 pub mod ApsLists
+pub mod Keyed

@@ -23,6 +23,7 @@ mod numbers;
 mod picture;
 mod place;
 mod sets;
+mod sets_key;
 mod structure;
 mod unit_types;
 
@@ -50,6 +51,7 @@ pub use numbers::number_of;
 pub use picture::{Picture, PictureParts, SliceSlot, SliceSlots, SliceView};
 pub use place::{Place, luma_size_of, several_slices, several_tiles};
 pub use sets::{PPS, SPS};
+pub use sets_key::SetsKey;
 pub use structure::{Structure, StructureFields};
 pub use unit_types::{
     CRA_NUT, EOB_NUT, EOS_NUT, GDR_NUT, IDR_N_LP, IDR_W_RADL, PH_NUT, PPS_NUT, PREFIX_APS_NUT,

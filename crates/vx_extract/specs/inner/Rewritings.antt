@@ -9,8 +9,8 @@ use Rattle.vx_extract.specs.Shapes.{sps_shape, pps_shape}
 
 -- they are those of this picture
 pub record IsRewritingOf (target : ℕ) (level : Option ℕ) (q : Parts) (made : Rewritten) : Type 0 where
-  pub source_sps : made.source_sps ≡ q.sps
-  pub source_pps : made.source_pps ≡ q.pps
+  pub source_sps : made.source.sps ≡ q.sps
+  pub source_pps : made.source.pps ≡ q.pps
   pub layout : q.layout ≡ numbers_in q.sps q.pps
   pub ids : q.ids ≡ ids_of q.sps q.pps
   pub sps : sps_reshaped.IsReshapedSps q.sps (sps_shape q target level) made.sps

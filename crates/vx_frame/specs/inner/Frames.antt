@@ -4,6 +4,7 @@ use Rattle.vx_bits.specs.declared.list.Item.{Item}
 use Rattle.vx_layout.specs.declared.numbers.Numbers.{Numbers}
 use Rattle.vx_sps.specs.Reshaped as sps_reshaped
 use Rattle.vx_pps.specs.Reshaped as pps_reshaped
+use Rattle.vx_pic.specs.Keys.{SetItems}
 use Rattle.vx_pic.specs.Parts.{Parts}
 use Rattle.vx_pic.specs.PictureLayout.{numbers_in}
 use Rattle.vx_frame.specs.declared.corner.Corner.{Corner}
@@ -11,7 +12,6 @@ use Rattle.vx_frame.specs.declared.frame.Frame.{Frame}
 use Rattle.vx_frame.specs.declared.frame.RenamedPps.{RenamedPps}
 use Rattle.vx_frame.specs.declared.frame.RoundFrame.{RoundFrame}
 use Rattle.vx_frame.specs.declared.frame.RoundFrame.TheVariants.{Kept, New}
-use Rattle.vx_frame.specs.declared.frame.SourceSets.{SourceSets}
 use Rattle.vx_frame.specs.Corners.{AreCorners}
 use Rattle.vx_frame.specs.Regions.{layouts_in}
 use Rattle.vx_frame.specs.Rounds.{no_picture, picture_at}
@@ -27,7 +27,7 @@ abbrev pub sets_of : Parts → Parts
 sets_of q = record no_picture { sps = q.sps; pps = q.pps; layout = q.layout }
 
 -- the same of sets that are kept
-abbrev pub sets_in : SourceSets → Parts
+abbrev pub sets_in : SetItems → Parts
 sets_in x = record no_picture { sps = x.sps; pps = x.pps; layout = numbers_in x.sps x.pps }
 
 -- the pictures of two rounds have the same sets
@@ -35,7 +35,7 @@ abbrev pub HaveSameSets : List Parts → List Parts → Type 0
 HaveSameSets kept round = map sets_of kept ≡ map sets_of round
 
 -- these are the sets of a round
-abbrev pub AreSetsOf : List Parts → List SourceSets → Type 0
+abbrev pub AreSetsOf : List Parts → List SetItems → Type 0
 AreSetsOf round sources = map sets_in sources ≡ map sets_of round
 
 abbrev pub HasSetsOf : List Parts → Frame → Type 0
