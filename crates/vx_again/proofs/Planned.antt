@@ -2,10 +2,8 @@
 use Rattle.std.proofs.Common.{◌≡◌, ℕ, ◌<◌, Bool, true, false, not, List, [], ◌∷◌, length, map, Option, refl, ap, sym, subst, ◌∙◌, arith}
 use Rattle.std.specs.Prelude.{drop}
 use Rattle.std.specs.List.{AllByRecursion, AllZip}
-use Rattle.std.proofs.lemmas.Bool.{eq-eqb, not-false}
-use Rattle.std.proofs.lemmas.Bool.Decides.{Decides-int_eq}
+use Rattle.std.proofs.lemmas.Bool.{not-false}
 use Rattle.std.proofs.lemmas.List.{length-map}
-use Rattle.vx_bits.specs.declared.list.Item.{Item}
 use Rattle.vx_pic.specs.declared.kind.Kind.{Kind}
 use Rattle.vx_pic.specs.Alike.{AlikeForCounts, AreAlike, IsNext}
 use Rattle.vx_pic.specs.Counts.{is_changed, kind_of}
@@ -17,6 +15,7 @@ use Rattle.vx_pic.specs.Rules.{Readers}
 use Rattle.vx_pic.specs.Sets.{names_of, same_items}
 use Rattle.vx_pic.specs.Written.{Plan, Says, SetUnit, planned, planned_slices}
 use Rattle.vx_pic.proofs.Counting.{alike_is_next, same_kind}
+use Rattle.vx_pic.proofs.SameItems.{same_itself}
 use Rattle.vx_pic.proofs.Sent.{items_are}
 use Rattle.vx_write.specs.Again.{HasItsBodies, IsReadable, IsWholePlan, SeiUnitsAreRead, SendsItsSets, SetUnitsAreRead, UnitsAreRead}
 use Rattle.vx_write.specs.Units.{IsSetUnit}
@@ -36,10 +35,6 @@ use Rattle.vx_again.proofs.Columns.{IsLast, IsSoundLast, all_last, earlier_can, 
 use Rattle.vx_again.proofs.Counts.{all_at, of_parts}
 use Rattle.vx_again.proofs.Facts.{one_at}
 use Rattle.vx_again.proofs.OneSps.{AreSame, one_sps}
-
-same_itself : (items : List Item) → same_items items items ≡ true
-same_itself [] = refl
-same_itself (x ∷ items) = rw (eq-eqb x.field x.field refl, (Decides-int_eq x.value x.value).1 refl) (same_itself items)
 
 -- ---- one round, all but its place among the pictures
 

@@ -1,6 +1,7 @@
 -- A parameter set that is stored; one that is sent again is kept as it is.
-use Rattle.std.proofs.Common.{◌≡◌, ◌<◌, ℕ, List, length, length-set, refl, sym, ◌∙◌, ap, subst, inl, inr, cond, Bool, true, Result}
+use Rattle.std.proofs.Common.{◌≡◌, ◌<◌, ℕ, List, length, length-set, refl, sym, ◌∙◌, ap, subst, inl, inr, cond, Bool, true, false, Result, Ok}
 use Rattle.std.specs.Prelude.{◌==◌, Option, Some, None, slice_set}
+use Rattle.std.specs.Bool.{OnTrue}
 use Rattle.std.specs.Option.{option_or}
 use Rattle.std.specs.List.{slice_index_or}
 use Rattle.std.proofs.lemmas.Bool.Decides.{eqb_tells}
@@ -10,7 +11,14 @@ use Rattle.vx_bits.specs.declared.list.Item.{Item}
 use Rattle.vx_bits.specs.declared.refusal.Refusal.{Refusal}
 use Rattle.vx_pic.specs.Sets.{same_items}
 use Rattle.vx_pic.specs.Rules.{Readers}
+use Rattle.vx_pic.specs.H266.{AnswersAt, AreOfH266}
+use Rattle.vx_sps.specs.Structure.{sps_form}
+use Rattle.vx_pps.specs.Pps.{pps_form}
+use Rattle.vx_table.specs.Forms.{Form}
+use Rattle.vx_table.specs.ReadFrom.{IsReadFrom}
+use Rattle.vx_table.specs.Reading.{at_front}
 use Rattle.vx_assemble.specs.inner.Stored.{IsReadAs, IsSentAgain, KeepsMade, IsPut}
+use Rattle.vx_assemble.proofs.Answers.{gives_value}
 use Rattle.vx_pic.proofs.Sent.{items_are}
 
 -- ---- whether a set is stored
@@ -25,6 +33,21 @@ is_there sets id stored set is same = is ∙ ap Some same
 
 pub same_sets : (a b : List Item) (t : Bool) → t ≡ same_items a b → t ≡ true → a ≡ b
 same_sets a b t said is = items_are a b (sym said ∙ is)
+
+read_again : {A : Type 0} (form : Form A) (reads : Readers → List ℕ → Result (List Item) Refusal) (items : List Item) (known : Option (List ℕ)) (rbsp : List ℕ) (t : Bool)
+    → ((R : Readers) → AreOfH266 R → AnswersAt form (at_front rbsp) (reads R rbsp)) → IsReadFrom form known items → OnTrue t (known ≡ Some rbsp)
+    → OnTrue t (IsReadAs reads items rbsp)
+read_again form reads items known rbsp false are read same = tt
+read_again form reads items known rbsp true are read same = λ (R : Readers) (of : AreOfH266 R).
+    gives_value form rbsp (reads R rbsp) (Ok items) (are R of) (subst (λ (x : Option (List ℕ)). IsReadFrom form x items) same read)
+
+pub sps_read_again : (items : List Item) (known : Option (List ℕ)) (rbsp : List ℕ) (t : Bool) → IsReadFrom sps_form known items → OnTrue t (known ≡ Some rbsp)
+    → OnTrue t (IsReadAs (λ R b. R.sps b) items rbsp)
+sps_read_again items known rbsp t = read_again sps_form (λ R b. R.sps b) items known rbsp t (λ R of. of.sps rbsp)
+
+pub pps_read_again : (items : List Item) (known : Option (List ℕ)) (rbsp : List ℕ) (t : Bool) → IsReadFrom pps_form known items → OnTrue t (known ≡ Some rbsp)
+    → OnTrue t (IsReadAs (λ R b. R.pps b) items rbsp)
+pps_read_again items known rbsp t = read_again pps_form (λ R b. R.pps b) items known rbsp t (λ R of. of.pps rbsp)
 
 -- ---- what is stored then
 

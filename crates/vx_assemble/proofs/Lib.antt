@@ -11,7 +11,6 @@ pub mod InForce
 pub mod InMemory
 pub mod Ordering
 pub mod KeptPicture
-pub mod SameItems
 pub mod Beginnings
 pub mod Ids
 pub mod Named

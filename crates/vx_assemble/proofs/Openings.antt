@@ -12,7 +12,7 @@ use Rattle.vx_assemble.specs.declared.state.BegunPicture.{BegunPicture}
 use Rattle.vx_assemble.specs.declared.state.State.{State}
 use Rattle.vx_assemble.specs.inner.Held.{begun_of, last_held, last_sps, IsApart}
 use Rattle.vx_assemble.specs.inner.Opening.{held_changed, opened_in}
-use Rattle.vx_assemble.proofs.SameItems.{same_itself}
+use Rattle.vx_pic.proofs.SameItems.{same_itself}
 
 empty_is : (ps : List Picture) (o : Option InForce) → option_map (λ f. f.sps) o ≡ last_sps ps → is_empty ps ≡ is_none o
 empty_is [] None is = refl

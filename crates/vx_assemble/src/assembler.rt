@@ -160,8 +160,8 @@ impl Assembler {
         }
         match what {
             Accepted::Vps | Accepted::Aps(..) => Some(&self.state.fields),
-            Accepted::Sps(id) => Some(self.state.sps_of(id)?.set().value().fields()),
-            Accepted::Pps(id) => Some(self.state.pps_of(id)?.set().value().fields()),
+            Accepted::Sps(id) => Some(self.state.sps_of(id)?.value().fields()),
+            Accepted::Pps(id) => Some(self.state.pps_of(id)?.value().fields()),
             Accepted::Nothing | Accepted::PictureDone => None,
         }
     }
@@ -170,14 +170,14 @@ impl Assembler {
     pub fn sps(&self, id: u8) -> Option<&Sps>
         ensures { (before : List Reading) → Stands self.now before → option_copied result ≡ stored_sps id before }
     {
-        Some(self.state.sps_of(id)?.set().value())
+        Some(self.state.sps_of(id)?.value())
     }
 
     /// The PPS of an id, where one is stored.
     pub fn pps(&self, id: u8) -> Option<&Pps>
         ensures { (before : List Reading) → Stands self.now before → option_copied result ≡ stored_pps id before }
     {
-        Some(self.state.pps_of(id)?.set().value())
+        Some(self.state.pps_of(id)?.value())
     }
 
     /// The picture whose last slice was taken last. It takes no memory.

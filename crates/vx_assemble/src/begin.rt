@@ -44,12 +44,12 @@ impl State {
         let Some(pps) = self.pps_of(id) else {
             return Err(ReadError::Refused(missing(PPS, id)));
         };
-        let sps_id = pps.set().value().sps_id();
+        let sps_id = pps.value().sps_id();
         let Some(sps) = self.sps_of(sps_id) else {
             return Err(ReadError::Refused(missing(SPS, sps_id)));
         };
-        let sps = sps.set().share()?;
-        let pps = pps.set().share()?;
+        let sps = sps.share()?;
+        let pps = pps.share()?;
         Ok(SetPair { sps, pps })
     }
 

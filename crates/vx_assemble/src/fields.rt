@@ -224,11 +224,11 @@ impl State {
             let items = items_to_id(alloc, inside, rbsp)?;
             return Ok(items);
         };
-        let Some(sps) = self.sps_of(pps.set().value().sps_id()) else {
+        let Some(sps) = self.sps_of(pps.value().sps_id()) else {
             let items = items_to_id(alloc, inside, rbsp)?;
             return Ok(items);
         };
-        let items = header_items(alloc, inside, sps.set().value(), pps.set().value(), rbsp)?;
+        let items = header_items(alloc, inside, sps.value(), pps.value(), rbsp)?;
         Ok(items)
     }
 

@@ -5,7 +5,8 @@ ghost use Rattle.vx_aps.specs.Aps.{IsValid};
 ghost use Rattle.vx_assemble.specs.inner.Held.{aps_items};
 ghost use Rattle.vx_assemble.specs.inner.Changes as changes;
 
-use crate::sets::{Stored, set_of};
+use crate::sets::set_of;
+use crate::shared::Shared;
 use crate::state::State;
 use std::sync::Arc;
 use vx_aps::Aps;
@@ -39,14 +40,14 @@ impl State {
     }
 
     /// The SPS of an id.
-    pub(crate) fn sps_of(&self, id: u8) -> Option<&Stored<Sps>>
+    pub(crate) fn sps_of(&self, id: u8) -> Option<&Shared<Sps>>
         ensures { option_copied result ≡ slice_index_or self.now.sps id None }
     {
         set_of(&self.sps, id)
     }
 
     /// The PPS of an id.
-    pub(crate) fn pps_of(&self, id: u8) -> Option<&Stored<Pps>>
+    pub(crate) fn pps_of(&self, id: u8) -> Option<&Shared<Pps>>
         ensures { option_copied result ≡ slice_index_or self.now.pps id None }
     {
         set_of(&self.pps, id)

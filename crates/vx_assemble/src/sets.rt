@@ -1,5 +1,5 @@
-//! Parameter sets that are stored by their ids, each with the RBSP that it was read from. One that is sent again stays as it is, with all that
-//! was made of it.
+//! Parameter sets that are stored by their ids. One that is sent again stays as it is, with all that was made of it: it is known by its RBSP, or
+//! else, once read, by its items.
 ghost use Rattle.std.specs.Prelude.{◌≡◌, ℕ, ◌<◌, ◌≤◌, List, length, Some, None, Err, IfOk, IfErr, IfSome, IsTrue, OnErr, Result, option_copied};
 ghost use Rattle.std.specs.List.{slice_index_or};
 ghost use Rattle.vx_bits.specs.declared.refusal.Refusal.{Refusal};
@@ -8,14 +8,13 @@ ghost use Rattle.vx_pic.specs.Sets as sets;
 ghost use Rattle.vx_pic.specs.Rules.{Readers};
 ghost use Rattle.vx_pic.specs.H266.{AreOfH266};
 ghost use Rattle.vx_assemble.specs.inner.Given.{Gives};
-ghost use Rattle.vx_assemble.specs.inner.Stored.{IsReadAs, KeepsSet, IsSentAgain, IsPut};
+ghost use Rattle.vx_assemble.specs.inner.Stored.{IsSentAgain, IsPut};
 
 use crate::readers::{pps_of, sps_of};
 use crate::shared::Shared;
 use crate::state::MadeSets;
-use std::alloc::{AllocError, Global};
-use std::marker::Model;
-use vx_bits::{Bytes, ReadError};
+use std::alloc::Global;
+use vx_bits::{ReadError, is_rbsp};
 use vx_pic::same_items;
 use vx_pps::Pps;
 use vx_sps::Sps;
@@ -28,6 +27,8 @@ pub(crate) trait ParameterSet: Drop + Sized {
     ghost use Rattle.vx_pic.specs.Rules.{Readers};
     ghost use Rattle.vx_pic.specs.H266.{AreOfH266};
     ghost use Rattle.vx_assemble.specs.inner.Given.{Gives};
+    ghost use Rattle.vx_assemble.specs.inner.Stored.{IsReadAs};
+    ghost use Rattle.std.specs.Bool.{OnTrue};
 
     ghost reads: { Readers → List ℕ → Result Self Refusal };
 
@@ -47,6 +48,10 @@ pub(crate) trait ParameterSet: Drop + Sized {
     fn id(&self) -> u8
         ensures value { result ≡ id_of self.now }
         ensures few { result < ids };
+
+    /// Whether it was read from this RBSP, which is short.
+    fn is_read_from(&self, rbsp: &[u8]) -> bool
+        ensures { OnTrue result (IsReadAs reads self.now rbsp.now) };
 
     /// Whether it is the same as another one.
     fn is_same(&self, other: &Self) -> bool
@@ -71,6 +76,11 @@ impl ParameterSet for Sps {
     #[tactic(auto, unfolding(vx_pic::specs::Sets::sps_id))]
     fn id(&self) -> u8 {
         self.sps_id()
+    }
+
+    #[tactic(auto, using(crate::proofs::Again::sps_read_again))]
+    fn is_read_from(&self, rbsp: &[u8]) -> bool {
+        is_rbsp(self.rbsp(), rbsp)
     }
 
     #[tactic(auto, using(crate::proofs::Again::same_sets))]
@@ -99,84 +109,19 @@ impl ParameterSet for Pps {
         self.pps_id()
     }
 
+    #[tactic(auto, using(crate::proofs::Again::pps_read_again))]
+    fn is_read_from(&self, rbsp: &[u8]) -> bool {
+        is_rbsp(self.rbsp(), rbsp)
+    }
+
     #[tactic(auto, using(crate::proofs::Again::same_sets))]
     fn is_same(&self, other: &Pps) -> bool {
         same_items(self.fields().as_slice(), other.fields().as_slice())
     }
 }
 
-/// The most bytes of an RBSP that are kept.
-const KEPT: usize = 1024;
-
-/// The bytes of an RBSP, or none where they are many.
-fn kept(alloc: Global, rbsp: &[u8]) -> Result<Option<Bytes>, AllocError>
-    ensures { IfOk result (λ bytes. IfSome bytes (λ b. b ≡ rbsp.now)) }
-{
-    if rbsp.len() > KEPT {
-        return Ok(None);
-    }
-    let mut bytes = Bytes::new(alloc);
-    bytes.extend_from_slice(rbsp)?;
-    Ok(Some(bytes))
-}
-
-/// Whether these bytes are those that are kept.
-fn are_kept(bytes: &Option<Bytes>, rbsp: &[u8]) -> bool
-    ensures { IsTrue result → bytes.now ≡ Some rbsp.now }
-{
-    match bytes {
-        Some(bytes) => bytes.as_slice() == rbsp,
-        None => false,
-    }
-}
-
-/// A set that is stored. It is seen as the set.
-#[derive(Drop)]
-pub(crate) struct Stored<S: ParameterSet> {
-    set: Shared<S>,
-    rbsp: Option<Bytes>,
-}
-
-impl<S: ParameterSet> Model for Stored<S> {
-    ghost Value = { S };
-
-    ghost view = { λ s. s.set };
-
-    ghost invariant = { λ s. KeepsSet S.reads s.set s.rbsp };
-}
-
-impl<S: ParameterSet> Stored<S> {
-    /// A set, read from this RBSP.
-    ///
-    /// # Errors
-    ///
-    /// Where memory runs out.
-    fn new(alloc: Global, set: S, rbsp: &[u8]) -> Result<Stored<S>, AllocError>
-        requires { IsReadAs S.reads set rbsp.now }
-        ensures { IfOk result (λ stored. stored ≡ set) }
-    {
-        let rbsp = kept(alloc, rbsp)?;
-        let set = Shared::new(alloc, set)?;
-        Ok(Stored { set, rbsp })
-    }
-
-    /// The set.
-    pub(crate) fn set(&self) -> &Shared<S>
-        ensures { result.now ≡ self.now }
-    {
-        &self.set
-    }
-
-    /// Whether it was read from this RBSP, which is kept.
-    fn is_of(&self, rbsp: &[u8]) -> bool
-        ensures { IsTrue result → IsReadAs S.reads self.now rbsp.now }
-    {
-        are_kept(&self.rbsp, rbsp)
-    }
-}
-
 /// The set that is stored under an id.
-pub(crate) fn set_of<S: ParameterSet>(sets: &[Option<Stored<S>>], id: u8) -> Option<&Stored<S>>
+pub(crate) fn set_of<S: ParameterSet>(sets: &[Option<Shared<S>>], id: u8) -> Option<&Shared<S>>
     ensures { option_copied result ≡ slice_index_or sets.now id None }
 {
     match sets.get(id as usize) {
@@ -187,15 +132,15 @@ pub(crate) fn set_of<S: ParameterSet>(sets: &[Option<Stored<S>>], id: u8) -> Opt
 
 /// The id of a set that is stored, and was read from this RBSP: it is sent again.
 #[tactic(auto, using(crate::proofs::Again::is_again))]
-fn sent_again<S: ParameterSet>(sets: &[Option<Stored<S>>], rbsp: &[u8]) -> Option<u8>
+fn sent_again<S: ParameterSet>(sets: &[Option<Shared<S>>], rbsp: &[u8]) -> Option<u8>
     ensures { IfSome result (IsSentAgain S.reads S.id_of sets.now rbsp.now) }
 {
     let id = S::id_in(*rbsp.first()?);
-    let stored = set_of(sets, id)?;
-    if !stored.is_of(rbsp) {
+    let stored = set_of(sets, id)?.value();
+    if !stored.is_read_from(rbsp) {
         return None;
     }
-    if stored.set().value().id() != id {
+    if stored.id() != id {
         return None;
     }
     Some(id)
@@ -203,11 +148,11 @@ fn sent_again<S: ParameterSet>(sets: &[Option<Stored<S>>], rbsp: &[u8]) -> Optio
 
 /// Whether a set is the one that is stored under its id.
 #[tactic(auto, using(crate::proofs::Again::is_there))]
-fn is_stored<S: ParameterSet>(sets: &[Option<Stored<S>>], id: u8, set: &S) -> bool
+fn is_stored<S: ParameterSet>(sets: &[Option<Shared<S>>], id: u8, set: &S) -> bool
     ensures { IsTrue result → slice_index_or sets.now id None ≡ Some set.now }
 {
     match set_of(sets, id) {
-        Some(stored) => stored.set().value().is_same(set),
+        Some(stored) => stored.value().is_same(set),
         None => false,
     }
 }
@@ -220,7 +165,7 @@ fn is_stored<S: ParameterSet>(sets: &[Option<Stored<S>>], id: u8, set: &S) -> bo
 #[tactic(auto, using(crate::proofs::Again::put_again, crate::proofs::Again::put_stored, crate::proofs::Again::put_new))]
 pub(crate) fn put_set<S: ParameterSet>(
     alloc: Global,
-    sets: &mut [Option<Stored<S>>],
+    sets: &mut [Option<Shared<S>>],
     made: &mut Option<MadeSets>,
     rbsp: &[u8],
 ) -> Result<u8, ReadError>
@@ -239,7 +184,7 @@ pub(crate) fn put_set<S: ParameterSet>(
     if is_stored(sets, id, &set) {
         return Ok(id);
     }
-    let stored = Stored::new(alloc, set, rbsp)?;
+    let stored = Shared::new(alloc, set)?;
     sets[id as usize] = Some(stored);
     *made = None;
     Ok(id)

@@ -4,7 +4,6 @@ ghost use Rattle.vx_assemble.specs.inner.Held.{IsHeld};
 ghost use Rattle.vx_assemble.specs.inner.Order.{IsInOrder};
 
 use crate::in_force::InForce;
-use crate::sets::Stored;
 use crate::shared::Shared;
 use std::alloc::Global;
 use vx_bits::{Bytes, Fields};
@@ -77,9 +76,9 @@ pub(crate) struct MadeSets {
 #[derive(Drop)]
 pub(crate) struct State {
     /// The SPSs that are stored, by their ids.
-    pub sps: [Option<Stored<Sps>>; 16],
+    pub sps: [Option<Shared<Sps>>; 16],
     /// The PPSs that are stored, by their ids.
-    pub pps: [Option<Stored<Pps>>; 64],
+    pub pps: [Option<Shared<Pps>>; 64],
     /// The sets of the latest picture header, where they are stored still.
     pub made: Option<MadeSets>,
     /// The adaptation parameter sets that are stored.

@@ -1,18 +1,16 @@
 -- Slots into which nothing was sent.
-use Rattle.std.proofs.Common.{◌≡◌, ℕ, ℤ, zero, suc, pos, ◌<◌, ◌^◌, Bool, true, false, cond, ◌&&◌, List, [], ◌∷◌, slice_get, Option, Some, None, refl, sym, ap, ◌∙◌, inl, inr, arith}
+use Rattle.std.proofs.Common.{◌≡◌, ℕ, zero, suc, pos, ◌<◌, ◌^◌, Bool, true, false, cond, ◌&&◌, List, [], ◌∷◌, slice_get, Option, Some, None, refl, sym, ap, ◌∙◌, inl, inr, arith}
 use Rattle.std.specs.Prelude.{◌==◌, nat_le}
-use Rattle.std.specs.Ordering.{int_eq}
-use Rattle.std.specs.Cmp.{int_eq_equiv}
 use Rattle.std.specs.Option.{option_or}
 use Rattle.std.specs.List.{AllByRecursion}
 use Rattle.std.proofs.lemmas.Bool.{cases_Bool, eq-eqb, le-leb, true≢false}
 use Rattle.std.proofs.lemmas.Option.{none-some}
 use Rattle.std.proofs.lemmas.List.Elements.{recursion_from_All, All-nil}
-use Rattle.vx_bits.specs.declared.list.Item.{Item}
 use Rattle.vx_fields.specs.declared.pps.TheConstants.{pps_pic_parameter_set_id}
 use Rattle.vx_table.proofs.Loading.{number_of_last}
 use Rattle.vx_table.specs.Scope.{natural}
-use Rattle.vx_pic.specs.Sets.{pps_id, sps_id, same_items}
+use Rattle.vx_pic.proofs.SameItems.{same_itself}
+use Rattle.vx_pic.specs.Sets.{pps_id, sps_id}
 use Rattle.vx_pic.specs.Units.{temporal_id}
 use Rattle.vx_pic.specs.Written.{Set, an_sps, a_pps, an_aps, SetUnit}
 use Rattle.vx_pic.specs.Resident.{same_slot, same_set, same_bytes, last_of, serves}
@@ -53,13 +51,6 @@ vacant_from_place s slots i place = some_there s slots i place.0 place.1 place.2
 same_field : (n : ℕ) → (n == n) ≡ true
 same_field n = eq-eqb n n refl
 
-int_same : (v : ℤ) → int_eq v v ≡ true
-int_same v = int_eq_equiv.refl v
-
-itself_items : (items : List Item) → same_items items items ≡ true
-itself_items [] = refl
-itself_items (x ∷ items) = rw (same_field x.field, int_same x.value, itself_items items) refl
-
 pub itself_bytes : (bytes : List ℕ) → same_bytes bytes bytes ≡ true
 itself_bytes [] = refl
 itself_bytes (b ∷ bytes) = rw (same_field b, itself_bytes bytes) refl
@@ -70,8 +61,8 @@ own_slot (a_pps p) = same_field (pps_id p)
 own_slot (an_aps a) = rw (same_field a.kind, same_field a.id) refl
 
 own_set : (s : Set) → same_set s s ≡ true
-own_set (an_sps s) = itself_items s
-own_set (a_pps p) = itself_items p
+own_set (an_sps s) = same_itself s
+own_set (a_pps p) = same_itself p
 own_set (an_aps a) = rw (same_field a.kind, same_field a.id, itself_bytes a.body) refl
 
 pub last_alike : (a b : Set) (sent : List SetUnit) → same_slot a b ≡ true → last_of a sent ≡ last_of b sent

@@ -18,4 +18,4 @@ pub use output::{write_all_of, write_end, write_one, write_some};
 pub use sending::{forget_before, send};
 pub use slots::Slots;
 pub use units::{aps_unit, plain_unit, pps_unit, sei_unit, sps_unit};
-pub use written::{NeededAps, NeededSet, copied, tid_of_unit, unit_of};
+pub use written::{NeededAps, NeededSet, tid_of_unit, unit_of};

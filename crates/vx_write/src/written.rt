@@ -11,7 +11,7 @@ ghost use Rattle.vx_write.specs.Slots.{pps_with_id};
 use crate::units::{aps_unit, pps_unit, sps_unit};
 use std::alloc::{AllocError, Global};
 use vx_aps::Aps;
-use vx_bits::{Bytes, Fields, Item};
+use vx_bits::{CopyList, Fields, Item};
 use vx_fields::pps::pps_pic_parameter_set_id;
 use vx_pic::same_items;
 use vx_pps::Pps;
@@ -57,21 +57,11 @@ fn same_bytes(a: &[u8], b: &[u8]) -> bool
     a == b
 }
 
-/// Items once more.
-pub fn copied(alloc: Global, items: &Fields) -> Result<Fields, AllocError>
-    ensures { IfOk result (λ copy. copy ≡ items.now) }
-{
-    let mut copy = Fields::new(alloc);
-    copy.extend_from_slice(items.as_slice())?;
-    Ok(copy)
-}
-
 /// An adaptation parameter set with this body.
 fn aps_of(alloc: Global, kind: u8, id: u8, bytes: &[u8]) -> Result<Aps, AllocError>
     ensures { IfOk result (λ aps. aps ≡ record { kind = kind; id = id; body = bytes.now }) }
 {
-    let mut body = Bytes::new(alloc);
-    body.extend_from_slice(bytes)?;
+    let body = CopyList::from_slice(alloc, bytes)?;
     Ok(Aps { kind, id, body })
 }
 
@@ -81,11 +71,11 @@ pub(crate) fn kept(alloc: Global, set: NeededSet<'_>) -> Result<WrittenSet, Allo
 {
     match set {
         NeededSet::Sps(sps) => {
-            let items = copied(alloc, sps.fields())?;
+            let items = CopyList::from_slice(alloc, sps.fields().as_slice())?;
             Ok(WrittenSet::Sps(items))
         }
         NeededSet::Pps(pps) => {
-            let items = copied(alloc, pps.fields())?;
+            let items = CopyList::from_slice(alloc, pps.fields().as_slice())?;
             Ok(WrittenSet::Pps(items))
         }
         NeededSet::Aps(aps) => {

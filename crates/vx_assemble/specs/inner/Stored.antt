@@ -10,11 +10,6 @@ use Rattle.vx_pic.specs.H266.{AreOfH266}
 abbrev pub IsReadAs : {S : Type 0} → (Readers → List ℕ → Result S Refusal) → S → List ℕ → Type 0
 IsReadAs reads set rbsp = (R : Readers) → AreOfH266 R → reads R rbsp ≡ Ok set
 
--- and where bytes are kept, from these
-abbrev pub KeepsSet : {S : Type 0} → (Readers → List ℕ → Result S Refusal) → S → Option (List ℕ) → Type 0
-KeepsSet reads set None = Unit {0}
-KeepsSet reads set (Some rbsp) = IsReadAs reads set rbsp
-
 -- a set that is stored under this id, which is its own, is read from these bytes
 pub record IsSentAgain {S : Type 0} (reads : Readers → List ℕ → Result S Refusal) (id_of : S → ℕ) (sets : List (Option S)) (rbsp : List ℕ) (id : ℕ)
     : Type 0 where
