@@ -22,6 +22,7 @@ use Rattle.vx_table.specs.Rewritten.{where_so}
 use Rattle.vx_sps.specs.declared.tables.TheConstants.{SUBLAYER_DPB, SUBLAYER_CPB}
 use Rattle.vx_ptl.specs.declared.tables.TheConstants.{DPB, NO_TIMING, TIMING, SUBLAYER_TIMING}
 use Rattle.vx_table.proofs.Groups.{agree_given, takes_at}
+use Rattle.vx_table.proofs.Rewrites.{values_take}
 use Rattle.vx_sps.proofs.Stages.{TakesTo, Meets, stage_at, groups_take_to, no_more_to, where_to, there_to, table_to}
 use Rattle.vx_sps.proofs.Testing.{owed, tested, all_tested, at_end, they_take, values_take_to}
 
@@ -110,11 +111,13 @@ no_rate_at most duration = they_take _ (pos 0 ∷ pos 0 ∷ []) _ (all_tested re
 
 within_at : (most duration : ℕ) → IsCodeNumber duration → Takes (sections_form (timed SUBLAYER_TIMING ∷ []) (timed_at most)) (rate_list 0 1 duration)
 unfolding fresh timed_at sections_form form_of part one_field after present turns has_value coding_at limits_at value HasCode fault_of item_of natural
-within_at most duration is = they_take _ (pos 0 ∷ pos 1 ∷ pos duration ∷ []) _ (tested refl (tested refl (owed is refl (at_end tt)))) refl
+within_at most duration is =
+    values_take _ (pos 0 ∷ pos 1 ∷ pos duration ∷ []) _ (record { code = omega arith; range = refl }, (record { code = omega arith; range = refl }, (record { code = is; range = refl }, tt))) refl
 
 general_rate_at : (most within duration : ℕ) → IsCodeNumber duration → Takes (sections_form (timed SUBLAYER_TIMING ∷ []) (timed_at most)) (rate_list 1 within duration)
 unfolding fresh timed_at sections_form form_of part one_field after present turns has_value coding_at limits_at value HasCode fault_of item_of natural
-general_rate_at most within duration is = they_take _ (pos 1 ∷ pos duration ∷ []) _ (tested refl (owed is refl (at_end tt))) refl
+general_rate_at most within duration is =
+    values_take _ (pos 1 ∷ pos duration ∷ []) _ (record { code = omega arith; range = refl }, (record { code = is; range = refl }, tt)) refl
 
 rate_at : (most general within duration : ℕ) → general < 2 → within < 2 → IsCodeNumber duration → Takes (sections_form (timed SUBLAYER_TIMING ∷ []) (timed_at most)) (rate_list general within duration)
 rate_at most zero zero duration a b is = no_rate_at most duration
