@@ -19,7 +19,7 @@ use Rattle.vx_table.proofs.Rewrites.{values_take}
 use Rattle.vx_sps.specs.Structure.{ids, profile, sps_sections, sps_form}
 use Rattle.vx_sps.specs.Reshaped.{item, sps_id_items, profile_items}
 use Rattle.vx_table.proofs.Groups.{agree_given, takes_at}
-use Rattle.vx_sps.proofs.Testing.{owed, all_tested, they_take}
+use Rattle.vx_sps.proofs.Testing.{value_is}
 
 -- a scope with one number has as many numbers as one without
 pub one_long : (n v : ℕ) (t : List ℕ) → length fresh ≡ length t → length (slice_set fresh n v) ≡ length t
@@ -56,37 +56,37 @@ Profile most = (p tier level frames layers : ℕ) → p < 128 → tier < 2 → l
 profile_none : Profile 0
 unfolding fresh sections_form form_of part one_field after present turns has_value coding_at limits_at value HasCode fault_of item_of natural profile_list profile_values
 profile_none p tier level frames layers a b c d e =
-    they_take _ (profile_values 0 p tier level frames layers) _ (owed a refl (owed b refl (owed c refl (owed d refl (owed e refl (all_tested refl (λ s. tt))))))) refl
+    values_take _ (profile_values 0 p tier level frames layers) _ (record { code = a; range = refl }, (record { code = b; range = refl }, (record { code = c; range = refl }, (record { code = d; range = refl }, (record { code = e; range = refl }, (value_is _ _ refl, (value_is _ _ refl, (value_is _ _ refl, (value_is _ _ refl, tt))))))))) refl
 
 profile_one : Profile 1
 unfolding fresh sections_form form_of part one_field after present turns has_value coding_at limits_at value HasCode fault_of item_of natural profile_list profile_values
 profile_one p tier level frames layers a b c d e =
-    they_take _ (profile_values 1 p tier level frames layers) _ (owed a refl (owed b refl (owed c refl (owed d refl (owed e refl (all_tested refl (λ s. tt))))))) refl
+    values_take _ (profile_values 1 p tier level frames layers) _ (record { code = a; range = refl }, (record { code = b; range = refl }, (record { code = c; range = refl }, (record { code = d; range = refl }, (record { code = e; range = refl }, (value_is _ _ refl, (value_is _ _ refl, (value_is _ _ refl, (value_is _ _ refl, (value_is _ _ refl, tt)))))))))) refl
 
 profile_two : Profile 2
 unfolding fresh sections_form form_of part one_field after present turns has_value coding_at limits_at value HasCode fault_of item_of natural profile_list profile_values
 profile_two p tier level frames layers a b c d e =
-    they_take _ (profile_values 2 p tier level frames layers) _ (owed a refl (owed b refl (owed c refl (owed d refl (owed e refl (all_tested refl (λ s. tt))))))) refl
+    values_take _ (profile_values 2 p tier level frames layers) _ (record { code = a; range = refl }, (record { code = b; range = refl }, (record { code = c; range = refl }, (record { code = d; range = refl }, (record { code = e; range = refl }, (value_is _ _ refl, (value_is _ _ refl, (value_is _ _ refl, (value_is _ _ refl, (value_is _ _ refl, (value_is _ _ refl, tt))))))))))) refl
 
 profile_three : Profile 3
 unfolding fresh sections_form form_of part one_field after present turns has_value coding_at limits_at value HasCode fault_of item_of natural profile_list profile_values
 profile_three p tier level frames layers a b c d e =
-    they_take _ (profile_values 3 p tier level frames layers) _ (owed a refl (owed b refl (owed c refl (owed d refl (owed e refl (all_tested refl (λ s. tt))))))) refl
+    values_take _ (profile_values 3 p tier level frames layers) _ (record { code = a; range = refl }, (record { code = b; range = refl }, (record { code = c; range = refl }, (record { code = d; range = refl }, (record { code = e; range = refl }, (value_is _ _ refl, (value_is _ _ refl, (value_is _ _ refl, (value_is _ _ refl, (value_is _ _ refl, (value_is _ _ refl, (value_is _ _ refl, tt)))))))))))) refl
 
 profile_four : Profile 4
 unfolding fresh sections_form form_of part one_field after present turns has_value coding_at limits_at value HasCode fault_of item_of natural profile_list profile_values
 profile_four p tier level frames layers a b c d e =
-    they_take _ (profile_values 4 p tier level frames layers) _ (owed a refl (owed b refl (owed c refl (owed d refl (owed e refl (all_tested refl (λ s. tt))))))) refl
+    values_take _ (profile_values 4 p tier level frames layers) _ (record { code = a; range = refl }, (record { code = b; range = refl }, (record { code = c; range = refl }, (record { code = d; range = refl }, (record { code = e; range = refl }, (value_is _ _ refl, (value_is _ _ refl, (value_is _ _ refl, (value_is _ _ refl, (value_is _ _ refl, (value_is _ _ refl, (value_is _ _ refl, (value_is _ _ refl, tt))))))))))))) refl
 
 profile_five : Profile 5
 unfolding fresh sections_form form_of part one_field after present turns has_value coding_at limits_at value HasCode fault_of item_of natural profile_list profile_values
 profile_five p tier level frames layers a b c d e =
-    they_take _ (profile_values 5 p tier level frames layers) _ (owed a refl (owed b refl (owed c refl (owed d refl (owed e refl (all_tested refl (λ s. tt))))))) refl
+    values_take _ (profile_values 5 p tier level frames layers) _ (record { code = a; range = refl }, (record { code = b; range = refl }, (record { code = c; range = refl }, (record { code = d; range = refl }, (record { code = e; range = refl }, (value_is _ _ refl, (value_is _ _ refl, (value_is _ _ refl, (value_is _ _ refl, (value_is _ _ refl, (value_is _ _ refl, (value_is _ _ refl, (value_is _ _ refl, (value_is _ _ refl, tt)))))))))))))) refl
 
 profile_six : Profile 6
 unfolding fresh sections_form form_of part one_field after present turns has_value coding_at limits_at value HasCode fault_of item_of natural profile_list profile_values
 profile_six p tier level frames layers a b c d e =
-    they_take _ (profile_values 6 p tier level frames layers) _ (owed a refl (owed b refl (owed c refl (owed d refl (owed e refl (all_tested refl (λ s. tt))))))) refl
+    values_take _ (profile_values 6 p tier level frames layers) _ (record { code = a; range = refl }, (record { code = b; range = refl }, (record { code = c; range = refl }, (record { code = d; range = refl }, (record { code = e; range = refl }, (value_is _ _ refl, (value_is _ _ refl, (value_is _ _ refl, (value_is _ _ refl, (value_is _ _ refl, (value_is _ _ refl, (value_is _ _ refl, (value_is _ _ refl, (value_is _ _ refl, (value_is _ _ refl, tt))))))))))))))) refl
 
 profile_at : (most : ℕ) → most < 7 → Profile most
 profile_at zero few = profile_none

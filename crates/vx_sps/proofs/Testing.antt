@@ -59,7 +59,7 @@ none_is : (fault : Option Fault) → is_none fault ≡ true → fault ≡ None
 none_is None h = refl
 none_is (Some fault) h = absurd (cc)
 
-value_is : (cell : Cell ℕ) (v : ℤ) → is_value cell v ≡ true → IsValueOf cell v
+pub value_is : (cell : Cell ℕ) (v : ℤ) → is_value cell v ≡ true → IsValueOf cell v
 value_is cell v h =
     let parts = and_parts (is_coded cell.coding v) (is_none (fault_of cell.limits v)) h in
     record { code = coded cell.coding v parts.0; range = none_is (fault_of cell.limits v) parts.1 }

@@ -1,13 +1,13 @@
 //! The subpictures of a set's pictures, from its items.
 
-ghost use Rattle.std.specs.Prelude.{◌≡◌, ◌+◌, ◌-◌, ◌<◌, ◌≤◌, length, slice_index, slice_index_or, IfOk};
+ghost use Rattle.std.specs.Prelude.{◌≡◌, ◌+◌, ◌-◌, ◌<◌, ◌≤◌, length, slice_index, slice_index_or, [], OnOk, IfOk};
 ghost use Rattle.vx_table.specs.Loaded.{number};
 ghost use Rattle.vx_table.specs.Loaded as loading;
 ghost use Rattle.vx_sps.specs.Subpictures as spec;
 ghost use Rattle.vx_table.specs.Scope.{fresh, loaded};
 ghost use Rattle.vx_fields.specs.declared.sps.TheConstants as sps;
 ghost use Rattle.vx_sps.specs.Set as set;
-ghost use Rattle.vx_sps.specs.inner.Kept.{AreSubpictures};
+ghost use Rattle.vx_sps.specs.inner.Kept.{AreSubpictures, no_numbers};
 
 use std::alloc::{AllocError, Global};
 use std::marker::Model;
@@ -33,19 +33,19 @@ pub(crate) struct Subpicture {
     pub id: u32,
 }
 
-/// The numbers of a field's items, in order.
+/// Notes the numbers of a field's items, in order.
 #[tactic(auto, using(crate::proofs::Counted::number_more, crate::proofs::Counted::number_passed))]
-fn numbers_of(alloc: Global, fields: &Fields, field: u16) -> Result<IdList, AllocError>
-    ensures { IfOk result (λ list. list ≡ loading.numbers_of fields.now field) }
+fn note_numbers(fields: &Fields, field: u16, numbers: &mut IdList) -> Result<(), AllocError>
+    requires { numbers.old ≡ [] }
+    ensures { OnOk result (numbers.new ≡ loading.numbers_of fields.now field) }
 {
-    let mut numbers = IdList::new(alloc);
     for i in 0..fields.len() {
         let item = fields.item(i);
         if item.field == field {
             numbers.push(natural(item.value))?;
         }
     }
-    Ok(numbers)
+    Ok(())
 }
 
 /// A number by its place; 0 where there is none.
@@ -101,13 +101,9 @@ fn on_grid(columns: u32, first: Rect, i: u32) -> Rect
     }
 }
 
-/// What a set tells of its subpictures, field by field. It is seen as the items of the set.
+/// The numbers of a set's subpictures, field by field.
 #[derive(Drop)]
-struct Told<'a> {
-    fields: &'a Fields,
-    columns: u32,
-    rows: u32,
-    same_size: bool,
+struct Numbers {
     x: IdList,
     y: IdList,
     w: IdList,
@@ -115,6 +111,54 @@ struct Told<'a> {
     treated: IdList,
     filtered: IdList,
     ids: IdList,
+}
+
+impl Numbers {
+    ghost use Rattle.std.specs.Prelude.{OnOk};
+    ghost use Rattle.vx_sps.specs.inner.Kept.{no_numbers, subpicture_numbers};
+
+    /// No numbers.
+    fn new(alloc: Global) -> Numbers
+        ensures { result ≡ no_numbers }
+    {
+        Numbers {
+            x: IdList::new(alloc),
+            y: IdList::new(alloc),
+            w: IdList::new(alloc),
+            h: IdList::new(alloc),
+            treated: IdList::new(alloc),
+            filtered: IdList::new(alloc),
+            ids: IdList::new(alloc),
+        }
+    }
+
+    /// Notes those of the items.
+    fn note(&mut self, fields: &Fields) -> Result<(), AllocError>
+        requires { self.old ≡ no_numbers }
+        ensures { OnOk result (self.new ≡ subpicture_numbers fields.now) }
+    {
+        note_numbers(fields, sps_subpic_ctu_top_left_x, &mut self.x)?;
+        note_numbers(fields, sps_subpic_ctu_top_left_y, &mut self.y)?;
+        note_numbers(fields, sps_subpic_width_minus1, &mut self.w)?;
+        note_numbers(fields, sps_subpic_height_minus1, &mut self.h)?;
+        note_numbers(fields, sps_subpic_treated_as_pic_flag, &mut self.treated)?;
+        note_numbers(
+            fields,
+            sps_loop_filter_across_subpic_enabled_flag,
+            &mut self.filtered,
+        )?;
+        note_numbers(fields, sps_subpic_id, &mut self.ids)
+    }
+}
+
+/// What a set tells of its subpictures. It is seen as the items of the set.
+#[derive(Drop)]
+struct Told<'a> {
+    fields: &'a Fields,
+    columns: u32,
+    rows: u32,
+    same_size: bool,
+    numbers: &'a Numbers,
 }
 
 impl<'a> Model for Told<'a> {
@@ -126,7 +170,7 @@ impl<'a> Model for Told<'a> {
 
     ghost view = { λ t. t.fields.now };
 
-    ghost invariant = { λ t. IsTold t.fields.now t.columns t.rows t.same_size t.x t.y t.w t.h t.treated t.filtered t.ids };
+    ghost invariant = { λ t. IsTold t.fields.now t.columns t.rows t.same_size t.numbers.now };
 }
 
 impl<'a> Told<'a> {
@@ -140,12 +184,12 @@ impl<'a> Told<'a> {
     fn own_rect(&self, i: u32) -> Rect
         ensures { result ≡ spec.own_rect self.now i }
     {
-        let (x, y) = (corner_at(&self.x, i), corner_at(&self.y, i));
+        let (x, y) = (corner_at(&self.numbers.x, i), corner_at(&self.numbers.y, i));
         Rect {
             x,
             y,
-            w: size_at(&self.w, self.columns, x, i),
-            h: size_at(&self.h, self.rows, y, i),
+            w: size_at(&self.numbers.w, self.columns, x, i),
+            h: size_at(&self.numbers.h, self.rows, y, i),
         }
     }
 
@@ -166,9 +210,9 @@ impl<'a> Told<'a> {
     {
         Subpicture {
             rect: self.rect(i),
-            treated: number_or(&self.treated, i, 1) != 0,
-            filtered: number_or(&self.filtered, i, 0) != 0,
-            id: number_or(&self.ids, i, i),
+            treated: number_or(&self.numbers.treated, i, 1) != 0,
+            filtered: number_or(&self.numbers.filtered, i, 0) != 0,
+            id: number_or(&self.numbers.ids, i, i),
         }
     }
 
@@ -185,6 +229,33 @@ impl<'a> Told<'a> {
     }
 }
 
+/// [`subpictures`], with the numbers that are noted for them.
+fn noted_subpictures(
+    alloc: Global,
+    fields: &Fields,
+    scope: &Scope,
+    columns: u32,
+    rows: u32,
+    numbers: &mut Numbers,
+) -> Result<CopyList<Subpicture>, AllocError>
+    requires scope { scope.now ≡ loaded fresh fields.now }
+    requires most { number fields.now sps.sps_num_subpics_minus1 < 1000 }
+    requires columns { columns ≡ set.ctu_columns_of fields.now }
+    requires rows { rows ≡ set.ctu_rows_of fields.now }
+    requires numbers { numbers.old ≡ no_numbers }
+    ensures { IfOk result (λ list. AreSubpictures fields.now (spec.subpics_of fields.now) list) }
+{
+    numbers.note(fields)?;
+    let told = Told {
+        fields,
+        columns,
+        rows,
+        same_size: scope.latest(sps_subpic_same_size_flag) != 0,
+        numbers,
+    };
+    told.subpictures(alloc, scope.latest(sps_num_subpics_minus1) + 1)
+}
+
 /// The subpictures of a set whose numbers the scope has; its pictures have so many columns and rows of CTUs.
 pub(crate) fn subpictures(
     alloc: Global,
@@ -199,18 +270,6 @@ pub(crate) fn subpictures(
     requires rows { rows ≡ set.ctu_rows_of fields.now }
     ensures { IfOk result (λ list. AreSubpictures fields.now (spec.subpics_of fields.now) list) }
 {
-    let told = Told {
-        fields,
-        columns,
-        rows,
-        same_size: scope.latest(sps_subpic_same_size_flag) != 0,
-        x: numbers_of(alloc, fields, sps_subpic_ctu_top_left_x)?,
-        y: numbers_of(alloc, fields, sps_subpic_ctu_top_left_y)?,
-        w: numbers_of(alloc, fields, sps_subpic_width_minus1)?,
-        h: numbers_of(alloc, fields, sps_subpic_height_minus1)?,
-        treated: numbers_of(alloc, fields, sps_subpic_treated_as_pic_flag)?,
-        filtered: numbers_of(alloc, fields, sps_loop_filter_across_subpic_enabled_flag)?,
-        ids: numbers_of(alloc, fields, sps_subpic_id)?,
-    };
-    told.subpictures(alloc, scope.latest(sps_num_subpics_minus1) + 1)
+    let mut numbers = Numbers::new(alloc);
+    noted_subpictures(alloc, fields, scope, columns, rows, &mut numbers)
 }

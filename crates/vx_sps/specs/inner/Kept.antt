@@ -1,5 +1,5 @@
 -- What a set keeps of its items, computed once.
-use Rattle.std.specs.Prelude.{◌≡◌, ℕ, ◌<◌, Bool, List, Option, length, slice_get, Some}
+use Rattle.std.specs.Prelude.{◌≡◌, ℕ, ◌<◌, Bool, List, [], Option, length, slice_get, Some}
 use Rattle.vx_bits.specs.declared.list.Item.{Item}
 use Rattle.vx_fields.specs.declared.sps.TheConstants as sps
 use Rattle.vx_rpl.specs.declared.entry.RplTable.{RplTable}
@@ -7,25 +7,35 @@ use Rattle.vx_rpl.specs.Resolved.{table_of}
 use Rattle.vx_table.specs.Loaded.{number}
 use Rattle.vx_table.specs.ReadFrom.{IsReadFrom}
 use Rattle.vx_table.specs.Scope.{fresh, loaded, is_set}
+use Rattle.vx_sps.specs.declared.subpictures.Numbers.{Numbers}
 use Rattle.vx_sps.specs.declared.subpictures.Subpicture.{Subpicture}
 use Rattle.vx_sps.specs.Structure.{sps_form}
 use Rattle.vx_sps.specs.Set.{AreSpsItems, ctu_columns_of, ctu_rows_of, is_weighted, extra_ph_bits_of, extra_sh_bits_of}
 use Rattle.vx_sps.specs.Subpictures.{subpics_of, rect_of, is_treated, is_filtered, sps_subpic_id_of}
 use Rattle.vx_table.specs.Loaded.{numbers_of}
 
--- The numbers are what the items tell of the subpictures, field by field, in a picture of so many columns and rows.
-pub record IsTold (items : List Item) (across down : ℕ) (same : Bool) (xs ys ws hs treated_ones filtered_ones all_ids : List ℕ)
-    : Type 0 where
+-- no numbers of subpictures
+abbrev pub no_numbers : Numbers
+no_numbers = record { x = []; y = []; w = []; h = []; treated = []; filtered = []; ids = [] }
+
+-- the numbers that the items have of subpictures
+abbrev pub subpicture_numbers : List Item → Numbers
+subpicture_numbers items = record {
+  x = numbers_of items sps.sps_subpic_ctu_top_left_x;
+  y = numbers_of items sps.sps_subpic_ctu_top_left_y;
+  w = numbers_of items sps.sps_subpic_width_minus1;
+  h = numbers_of items sps.sps_subpic_height_minus1;
+  treated = numbers_of items sps.sps_subpic_treated_as_pic_flag;
+  filtered = numbers_of items sps.sps_loop_filter_across_subpic_enabled_flag;
+  ids = numbers_of items sps.sps_subpic_id;
+}
+
+-- This is what the items tell of the subpictures, in a picture of so many columns and rows.
+pub record IsTold (items : List Item) (across down : ℕ) (same : Bool) (noted : Numbers) : Type 0 where
   pub columns : across ≡ ctu_columns_of items
   pub rows : down ≡ ctu_rows_of items
   pub same_size : same ≡ is_set (number items sps.sps_subpic_same_size_flag)
-  pub x : xs ≡ numbers_of items sps.sps_subpic_ctu_top_left_x
-  pub y : ys ≡ numbers_of items sps.sps_subpic_ctu_top_left_y
-  pub w : ws ≡ numbers_of items sps.sps_subpic_width_minus1
-  pub h : hs ≡ numbers_of items sps.sps_subpic_height_minus1
-  pub treated : treated_ones ≡ numbers_of items sps.sps_subpic_treated_as_pic_flag
-  pub filtered : filtered_ones ≡ numbers_of items sps.sps_loop_filter_across_subpic_enabled_flag
-  pub ids : all_ids ≡ numbers_of items sps.sps_subpic_id
+  pub numbers : noted ≡ subpicture_numbers items
 
 -- what is kept of subpicture i
 abbrev pub subpicture_of : List Item → ℕ → Subpicture

@@ -1,6 +1,6 @@
 use Rattle.std.proofs.Common.{◌≡◌, take}
 use Rattle.vx_table.specs.Loaded as loading
-use Rattle.vx_sps.proofs.subpictures.numbers_of.Given as goal
+use Rattle.vx_sps.proofs.subpictures.note_numbers.Given as goal
 
 -- the numbers of the items seen so far
 abbrev pub invariant-loop-i : goal.invariant-loop-i
