@@ -18,50 +18,50 @@ fn push_front(names: &mut NameList) -> Result<(), AllocError>
     Ok(())
 }
 
-/// What is taken over for a frame: the kept fields, but for those that say what stands in picture headers; and the gap at the end.
-fn for_frame(alloc: Global) -> Result<NameList, AllocError>
-    ensures { IfOk result (λ names. names ≡ taken_for_frame) }
+/// Appends what is taken over for a frame: the kept fields, but for those that say what stands in picture headers; and the gap at the end.
+fn push_for_frame(names: &mut NameList) -> Result<(), AllocError>
+    ensures { OnOk result (names.new ≡ names.old ++ taken_for_frame) }
 {
-    let mut names = NameList::new(alloc);
     names.push(pps_rbsp_trailing_bits)?;
-    push_front(&mut names)?;
-    push_unstarred(&mut names, &PREDICTION)?;
-    push_unstarred(&mut names, &QP_OFFSETS)?;
-    push_unstarred(&mut names, &DBF_CONTROL)?;
-    push_unstarred(&mut names, &DBF_OFFSETS)?;
-    push_unstarred(&mut names, &END)?;
-    Ok(names)
+    push_front(names)?;
+    push_unstarred(names, &PREDICTION)?;
+    push_unstarred(names, &QP_OFFSETS)?;
+    push_unstarred(names, &DBF_CONTROL)?;
+    push_unstarred(names, &DBF_OFFSETS)?;
+    push_unstarred(names, &END)?;
+    Ok(())
 }
 
-/// What is taken over for a region: the kept fields, the QP, and where filter and QP stand; and this gap.
-fn for_region(alloc: Global) -> Result<NameList, AllocError>
-    ensures { IfOk result (λ names. names ≡ taken_for_region) }
+/// Appends what is taken over for a region: the kept fields, the QP, and where filter and QP stand; and this gap.
+fn push_for_region(names: &mut NameList) -> Result<(), AllocError>
+    ensures { OnOk result (names.new ≡ names.old ++ taken_for_region) }
 {
-    let mut names = NameList::new(alloc);
     names.extend_from_slice(&[
         pps_init_qp_minus26,
         pps_alf_info_in_ph_flag,
         pps_qp_delta_info_in_ph_flag,
         pps_rbsp_trailing_bits,
     ])?;
-    push_front(&mut names)?;
-    push_unstarred(&mut names, &PREDICTION)?;
-    push_unstarred(&mut names, &QP_OFFSETS)?;
-    push_unstarred(&mut names, &DBF_CONTROL)?;
-    push_unstarred(&mut names, &DBF_INFO)?;
-    push_unstarred(&mut names, &DBF_OFFSETS)?;
-    push_unstarred(&mut names, &HEADER_INFO)?;
-    push_unstarred(&mut names, &END)?;
-    Ok(names)
+    push_front(names)?;
+    push_unstarred(names, &PREDICTION)?;
+    push_unstarred(names, &QP_OFFSETS)?;
+    push_unstarred(names, &DBF_CONTROL)?;
+    push_unstarred(names, &DBF_INFO)?;
+    push_unstarred(names, &DBF_OFFSETS)?;
+    push_unstarred(names, &HEADER_INFO)?;
+    push_unstarred(names, &END)?;
+    Ok(())
 }
 
 /// The fields that are taken over.
 pub(crate) fn taken(alloc: Global, merged: bool) -> Result<NameList, AllocError>
     ensures { IfOk result (λ names. names ≡ cond merged taken_for_frame taken_for_region) }
 {
+    let mut names = NameList::new(alloc);
     if merged {
-        for_frame(alloc)
+        push_for_frame(&mut names)?;
     } else {
-        for_region(alloc)
+        push_for_region(&mut names)?;
     }
+    Ok(names)
 }
