@@ -1,6 +1,7 @@
 //! The bodies of adaptive loop filters that slices have in force.
 ghost use Rattle.std.specs.Prelude.{◌≡◌, ◌<◌, ◌≤◌, ◌∷◌, [], List, length, map, option_copied, option_to_list, IfOk, OnOk};
 ghost use Rattle.std.specs.Bool.{OnTrue, OnFalse};
+ghost use Rattle.vx_pic.specs.Inputs.{alf_of};
 ghost use Rattle.vx_pic.specs.Parts.{Parts};
 ghost use Rattle.vx_pic.specs.Resident as resident;
 ghost use Rattle.vx_frame.specs.Bodies as words;
@@ -13,7 +14,7 @@ use crate::told::of_source;
 use std::alloc::{AllocError, Global};
 use vx_aps::ALF;
 use vx_bits::rules::TOO_MANY_ALF;
-use vx_bits::{BodyList, Refusal};
+use vx_bits::{BodyList, Fields, Refusal};
 use vx_fields::alf::{alf_aps_id_chroma, alf_cc_cb_aps_id, alf_cc_cr_aps_id};
 use vx_pic::{Picture, body_named, filter_fields, luma_bodies};
 
@@ -78,6 +79,19 @@ fn add_all<'a>(bodies: &mut BodyList<'a>, more: &BodyList<'a>) -> Result<(), All
     Ok(())
 }
 
+/// Adds those for luma that a header names.
+fn add_luma<'a>(
+    alloc: Global,
+    bodies: &mut BodyList<'a>,
+    picture: &Picture<'a>,
+    items: &Fields,
+) -> Result<(), AllocError>
+    ensures { OnOk result (map (λ b. b.now) bodies.new ≡ words.with_bodies (map (λ b. b.now) bodies.old) (alf_of picture.now items.now).luma) }
+{
+    let luma = luma_bodies(alloc, picture, items)?;
+    add_all(bodies, &luma)
+}
+
 /// Adds those of a slice.
 fn add_slice<'a>(
     alloc: Global,
@@ -90,12 +104,10 @@ fn add_slice<'a>(
 {
     let slice = picture.slice(i);
     let items = filter_fields(picture, slice.header);
-    let luma = luma_bodies(alloc, picture, items)?;
-    add_all(bodies, &luma)?;
+    add_luma(alloc, bodies, picture, items)?;
     add_some(bodies, body_named(picture, ALF, alf_aps_id_chroma, items))?;
     add_some(bodies, body_named(picture, ALF, alf_cc_cb_aps_id, items))?;
-    add_some(bodies, body_named(picture, ALF, alf_cc_cr_aps_id, items))?;
-    Ok(())
+    add_some(bodies, body_named(picture, ALF, alf_cc_cr_aps_id, items))
 }
 
 /// Adds those of a picture's slices.

@@ -57,6 +57,19 @@ pub(crate) enum RoundFrame {
     New(FrameGeometry),
 }
 
+/// What a frame has beside its geometry.
+#[derive(Drop)]
+struct FrameParts {
+    /// The key of each source's sets.
+    sources: Vec<SetsKey>,
+    /// Its layout.
+    layout: Layout,
+    /// Its SPS.
+    sps: Sps,
+    /// Its PPS with the id 0.
+    plain: Pps,
+}
+
 // ---- the sets of a round
 
 /// The key of a picture's sets.
@@ -181,6 +194,30 @@ fn sets_for(
     Ok((sps, pps))
 }
 
+/// What the frame with a geometry has beside it.
+fn parts_for(
+    alloc: Global,
+    round: &[Picture<'_>],
+    geometry: &FrameGeometry,
+    level: Option<u8>,
+) -> Result<FrameParts, AllocError>
+    requires { (corners : List AnyCorner) × IsRoundGeometry corners round.now geometry.now }
+    ensures sources { IfOk result (λ parts. AreSetsOf round.now parts.sources.items) }
+    ensures layout { IfOk result (λ parts. parts.layout ≡ geometry.now.numbers) }
+    ensures sps { IfOk result (λ parts. OfGeometry round.now geometry.now (λ corners. IsSpsFor corners round.now level parts.sps)) }
+    ensures plain { IfOk result (λ parts. OfGeometry round.now geometry.now (λ corners. IsPpsFor corners round.now geometry.now.numbers 0 parts.plain)) }
+{
+    let sources = sources(alloc, round)?;
+    let layout = layout_of(alloc, geometry)?;
+    let (sps, plain) = sets_for(alloc, round, geometry, level)?;
+    Ok(FrameParts {
+        sources,
+        layout,
+        sps,
+        plain,
+    })
+}
+
 /// The frame with a geometry.
 #[cold]
 #[inline(never)]
@@ -193,9 +230,12 @@ fn frame_with(
     requires { (corners : List AnyCorner) × IsRoundGeometry corners round.now geometry }
     ensures { (corners : List AnyCorner) → IsRoundGeometry corners round.now geometry → IfOk result (λ f. IsFrameOf corners level round.now f.value) }
 {
-    let sources = sources(alloc, round)?;
-    let layout = layout_of(alloc, &geometry)?;
-    let (sps, plain) = sets_for(alloc, round, &geometry, level)?;
+    let FrameParts {
+        sources,
+        layout,
+        sps,
+        plain,
+    } = parts_for(alloc, round, &geometry, level)?;
     let frame = Frame {
         sources,
         geometry,

@@ -35,12 +35,21 @@ fn copied_bounds(alloc: Global, bounds: &Bounds) -> Result<Bounds, AllocError>
     Ok(copy)
 }
 
+/// The tile lines of a frame once more.
+fn copied_tiles(alloc: Global, numbers: &Numbers) -> Result<Tiles, AllocError>
+    ensures columns { IfOk result (λ copy. copy.columns ≡ numbers.now.columns) }
+    ensures rows { IfOk result (λ copy. copy.rows ≡ numbers.now.rows) }
+{
+    let columns = copied_bounds(alloc, &numbers.columns)?;
+    let rows = copied_bounds(alloc, &numbers.rows)?;
+    Ok(Tiles { columns, rows })
+}
+
 /// The numbers of a frame once more.
 pub(crate) fn copied_numbers(alloc: Global, numbers: &Numbers) -> Result<Numbers, AllocError>
     ensures { IfOk result (λ copy. copy ≡ numbers.now) }
 {
-    let columns = copied_bounds(alloc, &numbers.columns)?;
-    let rows = copied_bounds(alloc, &numbers.rows)?;
+    let Tiles { columns, rows } = copied_tiles(alloc, numbers)?;
     let slices = copied(alloc, &numbers.slices)?;
     let subpics = copied(alloc, &numbers.subpics)?;
     Ok(Numbers {
@@ -99,21 +108,24 @@ fn pps_shape(
     ensures { IfOk result (λ shape. OfGeometry round.now frame.now (λ corners. shape ≡ spec.frame_pps_shape corners round.now frame.now.numbers id)) }
 {
     let layouts = frame.layouts.as_slice();
-    let columns = copied_bounds(alloc, &frame.numbers.columns)?;
-    let rows = copied_bounds(alloc, &frame.numbers.rows)?;
+    let ctb = round[0].sps().ctb();
+    let across_tiles = lowest_crosses(round, layouts, Pieces::Tiles);
+    let across_slices = lowest_crosses(round, layouts, Pieces::Slices);
+    let init_qp = init_qp(&round[0]);
+    let tiles = copied_tiles(alloc, &frame.numbers)?;
     let slices = copied(alloc, &frame.numbers.slices)?;
     Ok(PpsShape {
         id,
         sps_id: 0,
         width: frame.width,
         height: frame.height,
-        ctb: round[0].sps().ctb(),
+        ctb,
         subpic_id: None,
-        tiles: Tiles { columns, rows },
+        tiles,
         slices,
-        across_tiles: lowest_crosses(round, layouts, Pieces::Tiles),
-        across_slices: lowest_crosses(round, layouts, Pieces::Slices),
-        init_qp: init_qp(&round[0]),
+        across_tiles,
+        across_slices,
+        init_qp,
         merged: true,
     })
 }

@@ -247,6 +247,32 @@ fn have_same_items(round: &[Picture<'_>]) -> bool
     true
 }
 
+/// The lowest source with another header, where source 0 has these kept fields.
+fn lowest_in_headers(
+    alloc: Global,
+    round: &[Picture<'_>],
+    fields: &[u16],
+    first: &Kept,
+    lowest: Option<u16>,
+) -> Result<Option<Differing>, AllocError>
+    requires few { length round.now ≤ 64 }
+    requires fields { fields.now ≡ header_kept.kept_ph_fields }
+    requires first { first.now ≡ rules.kept_header (picture_at round.now 0) }
+    requires lowest { IsLowestWith bodies.has_lmcs round.now lowest }
+    ensures { IfOk result (IsLowestField (length round.now) (rules.picture_header round.now).breaks (rules.header_field round.now)) }
+{
+    for k in 0..round.len() {
+        let field = header_field(alloc, round, fields, first, lowest, k)?;
+        if let Some(field) = field {
+            return Ok(Some(Differing {
+                source: k as u16,
+                field,
+            }));
+        }
+    }
+    Ok(None)
+}
+
 /// The lowest source with another header.
 fn lowest_other_header(
     alloc: Global,
@@ -263,16 +289,7 @@ fn lowest_other_header(
     }
     let fields = header_fields(alloc)?;
     let first = kept_header(alloc, &round[0], fields.as_slice())?;
-    for k in 0..round.len() {
-        let field = header_field(alloc, round, fields.as_slice(), &first, lowest, k)?;
-        if let Some(field) = field {
-            return Ok(Some(Differing {
-                source: k as u16,
-                field,
-            }));
-        }
-    }
-    Ok(None)
+    lowest_in_headers(alloc, round, fields.as_slice(), &first, lowest)
 }
 
 /// Whether a source has another header.

@@ -1,20 +1,9 @@
 use Rattle.std.proofs.Common.{sym, subst}
-use Rattle.std.proofs.lemmas.List.Elements.{All-from_recursion}
-use Rattle.vx_write.specs.InForce.{AreInForce}
 use Rattle.vx_frame.specs.inner.Frames.{IsFrameOf}
 use Rattle.vx_frame.proofs.frame.frame_with.Goals as goal
 
-pub sources-requires : goal.sources-requires
-sources-requires c = All-from_recursion AreInForce c.args.round.now c.requires.1.made.are
-
-pub layout_of-requires-clause-layout : goal.layout_of-requires-clause-layout
-layout_of-requires-clause-layout c = c.requires.1.is.shapes.layout
-
-pub layout_of-requires-clause-limits : goal.layout_of-requires-clause-limits
-layout_of-requires-clause-limits c = c.requires.1.is.shapes.limits
-
-pub sets_for-requires : goal.sets_for-requires
-sets_for-requires c = (c.requires.0, c.requires.1.is)
+pub parts_for-requires : goal.parts_for-requires
+parts_for-requires c = c.requires
 
 pub returns : goal.returns
 returns c corners is =
@@ -22,10 +11,10 @@ returns c corners is =
       is = record {
         geometry = is.is;
         made = is.made;
-        layout = c.in_ok-layout.ensures;
-        sps = c.in_ok-sps.ensures.sps corners is.is;
-        plain = c.in_ok-sps.ensures.pps corners is.is;
+        layout = c.in_ok-sources.ensures.layout;
+        sps = c.in_ok-sources.ensures.sps corners is.is;
+        plain = c.in_ok-sources.ensures.plain corners is.is;
         renamed = tt;
       };
-      sets = c.in_ok-sources.ensures;
+      sets = c.in_ok-sources.ensures.sources;
     })
