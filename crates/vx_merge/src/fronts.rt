@@ -4,7 +4,6 @@ ghost use Rattle.vx_ph.specs.InForce.{in_force, structures};
 ghost use Rattle.vx_ph.specs.Picture.{IsHeader};
 ghost use Rattle.vx_ph.specs.Reshaped as ph_reshaped;
 ghost use Rattle.vx_pic.specs.Parts.{SlicePart};
-ghost use Rattle.vx_pic.specs.PictureLayout.{ids_of};
 ghost use Rattle.vx_pic.specs.Readings.{Begun};
 ghost use Rattle.vx_frame.specs.Rounds.{picture_at};
 ghost use Rattle.vx_merge.specs.Headers.{IsFront, ph_shape, sourced};
@@ -14,10 +13,9 @@ ghost use Rattle.vx_merge.specs.inner.Ready.{IsReadyAt, ids_in};
 use crate::needed::RoundSets;
 use crate::slice_shape::{filter_in, slice_shape};
 use std::alloc::{AllocError, Global};
-use vx_bits::IdList;
 use vx_layout::Layout;
 use vx_ph::PictureHeader;
-use vx_pic::Picture;
+use vx_pic::{Picture, picture_ids};
 use vx_sh::{SliceNumbers, SliceSender, slice_has_filter};
 use vx_write::plain_unit;
 
@@ -95,22 +93,21 @@ pub(crate) fn slice_fronts(
     needed: &RoundSets<'_, '_>,
     header: &PictureHeader,
     layout: &Layout,
-    ids: &IdList,
 ) -> Result<Vec<Vec<u8>>, AllocError>
     requires ready { IsReadyAt round.now needed.now layout.now }
     requires says { ph_reshaped.IsReshapedPictureHeader (picture_at round.now 0).header (ph_shape round.now (ids_in needed.now)) needed.now.sps.now needed.now.pps.now header.now }
     requires is { IsHeader (structures needed.now.sps.now) (in_force needed.now.sps.now needed.now.pps.now) header.now }
-    requires ids { ids.now ≡ ids_of needed.now.sps.now needed.now.pps.now }
     ensures { (b : Begun) → IsBegun round.now needed.now header.now layout.now b
         → IfOk result (λ fronts. AreFronts round.now needed.now b (sourced 0 round.now) (map (λ f. f.items) fronts.items)) }
 {
+    let ids = picture_ids(alloc, needed.sps, needed.pps)?;
     let numbers = SliceNumbers {
         nal_type: round[0].kind().nal_type,
         sps: needed.sps,
         pps: needed.pps,
         header,
         layout,
-        ids,
+        ids: &ids,
     };
     let fronts = fronts_at(alloc, round, needed, &numbers)?;
     Ok(fronts)

@@ -293,14 +293,15 @@ pub(crate) fn needed<'s, 'a>(
 {
     bodies_end(round, &bodies);
     let temporal_id = round[0].kind().temporal_id;
+    let scales_chroma = scales_chroma(round, bodies.lmcs);
+    let pps = pps_under(frame, pps_id);
     let filters = bodies.filters.bodies;
     let alf = named(alloc, slots, of_alf(temporal_id), filters)?;
     let lmcs = named_lmcs(alloc, slots, temporal_id, round, bodies.lmcs)?;
-    let scales_chroma = scales_chroma(round, bodies.lmcs);
     let scaling = named_scaling(alloc, slots, temporal_id, round, bodies.scaling)?;
     Ok(RoundSets {
         sps: &frame.sps,
-        pps: pps_under(frame, pps_id),
+        pps,
         pps_id,
         alf,
         lmcs,

@@ -30,7 +30,7 @@ use std::alloc::{AllocError, Global};
 use vx_bits::BodyList;
 use vx_frame::{Corner, Frame, RoundBodies, have_pps, round_bodies, sound_frame};
 use vx_layout::Layout;
-use vx_pic::{Kind, Picture, picture_ids};
+use vx_pic::{Kind, Picture};
 use vx_write::{Slots, WriteError, forget_before, sei_unit};
 
 // ---- payloads
@@ -80,6 +80,21 @@ fn messages_unit(alloc: Global, round: &[Picture<'_>]) -> Result<Option<Vec<u8>>
     sei_unit(alloc, source.messages(), source.kind().temporal_id)
 }
 
+/// What is written of a round as it is: the unit of its messages, and its payloads.
+fn kept_parts<'a>(
+    alloc: Global,
+    round: &[Picture<'a>],
+) -> Result<(Option<Vec<u8>>, BodyList<'a>), AllocError>
+    requires { 0 < length round.now }
+    ensures sei { IfOk result (λ parts. IsSeiUnit (picture_at round.now 0).kind.temporal_id (picture_at round.now 0).messages
+        (option_map (λ u. record { unit = u.items; messages = (picture_at round.now 0).messages }) parts.0)) }
+    ensures payloads { IfOk result (λ parts. map (λ b. b.now) parts.1 ≡ flat_map payloads_in round.now) }
+{
+    let sei = messages_unit(alloc, round)?;
+    let payloads = payloads(alloc, round)?;
+    Ok((sei, payloads))
+}
+
 // ---- headers
 
 /// The units of the headers of a round.
@@ -102,10 +117,9 @@ fn header_units(
     ensures { IfOk result (λ h. AreHeaders round.now needed.now layout.now h.header.items (map (λ u. u.items) h.fronts.items)) }
 {
     let temporal_id = kind_of(round).temporal_id;
-    let ids = picture_ids(alloc, &needed.sps, &needed.pps)?;
     let header = picture_header(alloc, round, needed)?;
     let unit = header_unit(alloc, &header, needed, temporal_id)?;
-    let fronts = slice_fronts(alloc, round, needed, &header, layout, &ids)?;
+    let fronts = slice_fronts(alloc, round, needed, &header, layout)?;
     Ok(HeaderUnits {
         header: unit,
         fronts,
@@ -139,8 +153,7 @@ fn units_under<'a>(
     let needed = needed(alloc, round, bodies, frame, pps_id, slots)?;
     let headers = header_units(alloc, round, &needed, &frame.layout)?;
     let sets = send_needed(alloc, slots, &needed, kind.temporal_id)?;
-    let sei = messages_unit(alloc, round)?;
-    let payloads = payloads(alloc, round)?;
+    let (sei, payloads) = kept_parts(alloc, round)?;
     Ok(RoundUnits {
         after_eos: kind.after_eos,
         sets,

@@ -48,7 +48,7 @@ returns-clause-needed c = λ corners level sent used last.
       sps = used.is.sps;
       plain = plain;
       plain_is = used.is.plain;
-      pps = rw c.pps_under.ensures (c.requires.pps corners level used);
+      pps = rw c.pps_under-pps.ensures (c.requires.pps corners level used);
       pps_id = c.requires.low;
       alf = alf.are;
       lmcs = c.in_ok-lmcs.ensures.are;
@@ -70,7 +70,7 @@ returns-clause-can c =
     let alf = rw (of_alf, c.of_alf.ensures) at c.in_ok-alf.ensures in
     record {
       sps = sps_items first.sps (frame_sps_shape corners round level) frame.sps used.is.sps;
-      pps = pps_items first.pps (frame_pps_shape corners round frame.geometry.numbers c.args.pps_id) c.pps_under.result.now (rw c.pps_under.ensures (c.requires.pps corners level used));
+      pps = pps_items first.pps (frame_pps_shape corners round frame.geometry.numbers c.args.pps_id) c.pps_under-pps.result.now (rw c.pps_under-pps.ensures (c.requires.pps corners level used));
       alf = record { one_each = alf.one_each; ends = subst ends (sym alf.are) c.bodies_end.ensures.alf };
       lmcs = record { one_each = c.in_ok-lmcs.ensures.one_each; ends = subst ends (sym c.in_ok-lmcs.ensures.are) c.bodies_end.ensures.lmcs };
       scaling = record { one_each = c.in_ok-scaling.ensures.one_each; ends = subst ends (sym c.in_ok-scaling.ensures.are) c.bodies_end.ensures.scaling };

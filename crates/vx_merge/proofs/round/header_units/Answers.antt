@@ -27,9 +27,6 @@ slice_fronts-requires-clause-says c = c.in_ok-header.ensures.says
 pub slice_fronts-requires-clause-is : goal.slice_fronts-requires-clause-is
 slice_fronts-requires-clause-is c = c.in_ok-header.ensures.is
 
-pub slice_fronts-requires-clause-ids : goal.slice_fronts-requires-clause-ids
-slice_fronts-requires-clause-ids c = c.in_ok-ids.ensures.ids
-
 pub returns : goal.returns
 returns c =
     let round = c.args.round.now in

@@ -34,13 +34,13 @@ send_needed-requires-clause-tid c = c.kind_of-kind.ensures.tid
 pub send_needed-requires-clause-can : goal.send_needed-requires-clause-can
 send_needed-requires-clause-can c = c.in_ok-needed.ensures.can
 
-pub messages_unit-requires : goal.messages_unit-requires
-messages_unit-requires c = some_used c.args.round.now c.args.frame.now c.requires.frame
+pub kept_parts-requires : goal.kept_parts-requires
+kept_parts-requires c = some_used c.args.round.now c.args.frame.now c.requires.frame
 
 pub returns-clause-payloads : goal.returns-clause-payloads
 returns-clause-payloads c =
-    let count = payload_count c.args.round.now _ _ _ c.in_ok-headers.ensures.slices c.in_ok-payloads.ensures in
-    count_of c.in_ok-headers.headers.fronts.items c.in_ok-payloads.payloads count
+    let count = payload_count c.args.round.now _ _ _ c.in_ok-headers.ensures.slices c.in_ok-sei.ensures.payloads in
+    count_of c.in_ok-headers.headers.fronts.items c.in_ok-sei.payloads count
 
 pub returns-clause-units : goal.returns-clause-units
 returns-clause-units c corners level history used last =
@@ -57,6 +57,6 @@ returns-clause-units c corners level history used last =
       eos = ap (λ k. k.after_eos) c.kind_of-kind.ensures.value;
       headers = c.in_ok-headers.ensures;
       sent = rw (ap (λ k. k.temporal_id) c.kind_of-kind.ensures.value) at (c.in_ok-sets.ensures corners level round frame.layout sent last needed);
-      sei = c.in_ok-sei.ensures;
-      payloads = c.in_ok-payloads.ensures;
+      sei = c.in_ok-sei.ensures.sei;
+      payloads = c.in_ok-sei.ensures.payloads;
     })
