@@ -2,7 +2,7 @@
 //! a walk over it is compiled to the steps of these rows alone. [`rows!`](crate::rows) makes one of a table's text. They are for structures that are walked over again and again, as the headers
 //! of slices; a table that is seldom walked over is smaller as an array.
 
-ghost use Rattle.std.specs.Prelude.{◌≡◌, ◌∷◌};
+ghost use Rattle.std.specs.Prelude.{◌≡◌, ◌∷◌, ⊤};
 ghost use Rattle.vx_table.specs.declared.rows.Presence.TheVariants.{When, Repeat};
 ghost use Rattle.vx_table.specs.Spelling.{IsCodable};
 ghost use Rattle.vx_table.specs.Forms.{done, field, after, one_field, form_of, present};
@@ -17,6 +17,7 @@ pub use crate::constants::{
 use crate::rows::{Cell, Coding, Formula, Limits};
 use crate::scope::Scope;
 use crate::walk::{Coder, cell, code_cell};
+use std::alloc::AllocError;
 
 // ---- fields
 
@@ -155,12 +156,23 @@ impl Rows for NoRow {
 }
 
 /// A field or a gap, and the rows behind it.
-#[derive(Clone, Copy)]
 pub struct FieldThen<F, R> {
     /// The field.
     pub field: F,
     /// The rows behind it.
     pub rest: R,
+}
+
+impl<F: Copy, R: Copy> Copy for FieldThen<F, R> {}
+
+impl<F: Copy, R: Copy> Clone for FieldThen<F, R> {
+    ghost is_clone = { λ x y. y ≡ x };
+
+    ghost is_infallible = { λ _. ⊤ };
+
+    fn clone(&self) -> Result<Self, AllocError> {
+        Ok(*self)
+    }
 }
 
 impl<F: Constant<Cell<Formula>>, R: Rows> Rows for FieldThen<F, R> {
@@ -183,10 +195,21 @@ impl<F: Constant<Cell<Formula>>, R: Rows> Rows for FieldThen<F, R> {
 }
 
 /// A field of one bit and any value, and the rows behind it.
-#[derive(Clone, Copy)]
 pub struct FlagThen<const FIELD: u16, const KEPT: bool, R> {
     /// The rows behind it.
     pub rest: R,
+}
+
+impl<const FIELD: u16, const KEPT: bool, R: Copy> Copy for FlagThen<FIELD, KEPT, R> {}
+
+impl<const FIELD: u16, const KEPT: bool, R: Copy> Clone for FlagThen<FIELD, KEPT, R> {
+    ghost is_clone = { λ x y. y ≡ x };
+
+    ghost is_infallible = { λ _. ⊤ };
+
+    fn clone(&self) -> Result<Self, AllocError> {
+        Ok(*self)
+    }
 }
 
 impl<const FIELD: u16, const KEPT: bool, R: Rows> Rows for FlagThen<FIELD, KEPT, R> {
@@ -210,12 +233,23 @@ impl<const FIELD: u16, const KEPT: bool, R: Rows> Rows for FlagThen<FIELD, KEPT,
 }
 
 /// A name for a number, and the rows behind it.
-#[derive(Clone, Copy)]
 pub struct NameThen<const NAME: u16, F, R> {
     /// The number.
     pub formula: F,
     /// The rows behind it.
     pub rest: R,
+}
+
+impl<const NAME: u16, F: Copy, R: Copy> Copy for NameThen<NAME, F, R> {}
+
+impl<const NAME: u16, F: Copy, R: Copy> Clone for NameThen<NAME, F, R> {
+    ghost is_clone = { λ x y. y ≡ x };
+
+    ghost is_infallible = { λ _. ⊤ };
+
+    fn clone(&self) -> Result<Self, AllocError> {
+        Ok(*self)
+    }
 }
 
 impl<const NAME: u16, F: Constant<Formula>, R: Rows> Rows for NameThen<NAME, F, R> {
@@ -239,7 +273,6 @@ impl<const NAME: u16, F: Constant<Formula>, R: Rows> Rows for NameThen<NAME, F, 
 }
 
 /// A block of rows that is there where a formula isn't 0, and the rows behind it.
-#[derive(Clone, Copy)]
 pub struct WhenThen<F, B, R> {
     /// The formula.
     pub holds: F,
@@ -247,6 +280,18 @@ pub struct WhenThen<F, B, R> {
     pub block: B,
     /// The rows behind it.
     pub rest: R,
+}
+
+impl<F: Copy, B: Copy, R: Copy> Copy for WhenThen<F, B, R> {}
+
+impl<F: Copy, B: Copy, R: Copy> Clone for WhenThen<F, B, R> {
+    ghost is_clone = { λ x y. y ≡ x };
+
+    ghost is_infallible = { λ _. ⊤ };
+
+    fn clone(&self) -> Result<Self, AllocError> {
+        Ok(*self)
+    }
 }
 
 impl<F: Constant<Formula>, B: Rows, R: Rows> Rows for WhenThen<F, B, R> {
@@ -270,7 +315,6 @@ impl<F: Constant<Formula>, B: Rows, R: Rows> Rows for WhenThen<F, B, R> {
 }
 
 /// A block of rows that comes so many times, with a counter from 0, and the rows behind it.
-#[derive(Clone, Copy)]
 pub struct RepeatThen<const COUNTER: u16, F, B, R> {
     /// How often the block comes.
     pub times: F,
@@ -278,6 +322,18 @@ pub struct RepeatThen<const COUNTER: u16, F, B, R> {
     pub block: B,
     /// The rows behind it.
     pub rest: R,
+}
+
+impl<const COUNTER: u16, F: Copy, B: Copy, R: Copy> Copy for RepeatThen<COUNTER, F, B, R> {}
+
+impl<const COUNTER: u16, F: Copy, B: Copy, R: Copy> Clone for RepeatThen<COUNTER, F, B, R> {
+    ghost is_clone = { λ x y. y ≡ x };
+
+    ghost is_infallible = { λ _. ⊤ };
+
+    fn clone(&self) -> Result<Self, AllocError> {
+        Ok(*self)
+    }
 }
 
 impl<const COUNTER: u16, F: Constant<Formula>, B: Rows, R: Rows> Rows

@@ -3,7 +3,7 @@
 //! it is in: the field or name whose latest number it is, and the written number where that is [`NO_FIELD`]. So a table's type
 //! stays small enough for the toolchain, which doesn't take one of more than some hundred types inside one another.
 
-ghost use Rattle.std.specs.Prelude.{◌≡◌};
+ghost use Rattle.std.specs.Prelude.{◌≡◌, ⊤};
 ghost use Rattle.vx_table.specs.declared.rows.Term.{Term};
 ghost use Rattle.vx_table.specs.declared.rows.Formula.{Formula};
 ghost use Rattle.vx_table.specs.declared.rows.Formula.TheVariants as formulas;
@@ -13,6 +13,7 @@ ghost use Rattle.vx_table.specs.declared.rows.Fault.TheVariants as faults;
 ghost use Rattle.vx_table.specs.inner.ByType.{term_of};
 
 use crate::rows;
+use std::alloc::AllocError;
 
 /// A type that stands for a value.
 pub trait Constant<T> {
@@ -290,8 +291,19 @@ impl<const CODE: u8> Constant<rows::Fault> for Structure<CODE> {
 }
 
 /// From `LOW` to the first; the second is the fault of any other.
-#[derive(Clone, Copy)]
 pub struct InRange<const LOW: i32, H, F>(pub H, pub F);
+
+impl<const LOW: i32, H: Copy, F: Copy> Copy for InRange<LOW, H, F> {}
+
+impl<const LOW: i32, H: Copy, F: Copy> Clone for InRange<LOW, H, F> {
+    ghost is_clone = { λ x y. y ≡ x };
+
+    ghost is_infallible = { λ _. ⊤ };
+
+    fn clone(&self) -> Result<Self, AllocError> {
+        Ok(*self)
+    }
+}
 
 impl<const LOW: i32, H: Constant<rows::Formula>, F: Constant<rows::Fault>> Constant<
     rows::Limits<rows::Formula>,
@@ -309,8 +321,19 @@ impl<const LOW: i32, H: Constant<rows::Formula>, F: Constant<rows::Fault>> Const
 }
 
 /// From 0 up to, and without, the first; the second is the fault of any other.
-#[derive(Clone, Copy)]
 pub struct BelowBound<B, F>(pub B, pub F);
+
+impl<B: Copy, F: Copy> Copy for BelowBound<B, F> {}
+
+impl<B: Copy, F: Copy> Clone for BelowBound<B, F> {
+    ghost is_clone = { λ x y. y ≡ x };
+
+    ghost is_infallible = { λ _. ⊤ };
+
+    fn clone(&self) -> Result<Self, AllocError> {
+        Ok(*self)
+    }
+}
 
 impl<B: Constant<rows::Formula>, F: Constant<rows::Fault>> Constant<rows::Limits<rows::Formula>>
     for BelowBound<B, F> {
@@ -341,8 +364,19 @@ fn any(field: u16, kept: bool, coding: rows::Coding<rows::Formula>) -> rows::Cel
 }
 
 /// `u(n)`.
-#[derive(Clone, Copy)]
 pub struct Fixed<const FIELD: u16, const KEPT: bool, N>(pub N);
+
+impl<const FIELD: u16, const KEPT: bool, N: Copy> Copy for Fixed<FIELD, KEPT, N> {}
+
+impl<const FIELD: u16, const KEPT: bool, N: Copy> Clone for Fixed<FIELD, KEPT, N> {
+    ghost is_clone = { λ x y. y ≡ x };
+
+    ghost is_infallible = { λ _. ⊤ };
+
+    fn clone(&self) -> Result<Self, AllocError> {
+        Ok(*self)
+    }
+}
 
 impl<const FIELD: u16, const KEPT: bool, N: Constant<rows::Formula>> Constant<
     rows::Cell<rows::Formula>,
@@ -454,8 +488,19 @@ impl<const FIELD: u16, const KEPT: bool> Constant<rows::Cell<rows::Formula>>
 }
 
 /// A field with a range: the first, with the second in place of its own.
-#[derive(Clone, Copy)]
 pub struct Limited<C, L>(pub C, pub L);
+
+impl<C: Copy, L: Copy> Copy for Limited<C, L> {}
+
+impl<C: Copy, L: Copy> Clone for Limited<C, L> {
+    ghost is_clone = { λ x y. y ≡ x };
+
+    ghost is_infallible = { λ _. ⊤ };
+
+    fn clone(&self) -> Result<Self, AllocError> {
+        Ok(*self)
+    }
+}
 
 impl<C: Constant<rows::Cell<rows::Formula>>, L: Constant<rows::Limits<rows::Formula>>> Constant<
     rows::Cell<rows::Formula>,

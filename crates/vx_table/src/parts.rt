@@ -13,7 +13,7 @@ use crate::writer::{SpellError, Unwritten};
 use vx_bits::{BitReader, BitWriter, Fields, ReadError};
 
 /// A table of a structure, and how often it is there.
-#[derive(Clone, Copy, Debug)]
+#[derive(Clone, Copy)]
 pub struct Part<'a> {
     pub presence: Presence,
     pub rows: &'a [Row],

@@ -1,14 +1,18 @@
 //! What a syntax table is made of: plain data, written by `table!`.
 
+ghost use Rattle.std.specs.Prelude.{◌≡◌, ⊤};
+
+use std::alloc::AllocError;
+
 /// A number that a row uses: a written one, or the latest of a field or a name.
-#[derive(Clone, Copy, Debug)]
+#[derive(Clone, Copy)]
 pub enum Term {
     Number(u32),
     Latest(u16),
 }
 
 /// A number computed from two at most. A test gives 1 where it holds and else 0.
-#[derive(Clone, Copy, Debug)]
+#[derive(Clone, Copy)]
 pub enum Formula {
     Plain(Term),
     Plus(Term, Term),
@@ -29,7 +33,6 @@ pub enum Formula {
 }
 
 /// How a field is coded. `N` is a formula in a table's row, and its number where the row is coded.
-#[derive(Clone, Copy, Debug)]
 pub enum Coding<N> {
     /// `u(n)`.
     Fixed(N),
@@ -49,6 +52,18 @@ pub enum Coding<N> {
     Refused,
 }
 
+impl<N: Copy> Copy for Coding<N> {}
+
+impl<N: Copy> Clone for Coding<N> {
+    ghost is_clone = { λ x y. y ≡ x };
+
+    ghost is_infallible = { λ _. ⊤ };
+
+    fn clone(&self) -> Result<Self, AllocError> {
+        Ok(*self)
+    }
+}
+
 /// The name of a broken range.
 #[derive(Clone, Copy, Debug)]
 pub enum Fault {
@@ -59,7 +74,6 @@ pub enum Fault {
 }
 
 /// The values that a field may have.
-#[derive(Clone, Copy, Debug)]
 pub enum Limits<N> {
     /// Every value of the code.
     Any,
@@ -71,8 +85,19 @@ pub enum Limits<N> {
     Multiple { unit: u32, high: u32, fault: Fault },
 }
 
+impl<N: Copy> Copy for Limits<N> {}
+
+impl<N: Copy> Clone for Limits<N> {
+    ghost is_clone = { λ x y. y ≡ x };
+
+    ghost is_infallible = { λ _. ⊤ };
+
+    fn clone(&self) -> Result<Self, AllocError> {
+        Ok(*self)
+    }
+}
+
 /// A field of a structure, or a gap that is reported under a field's number.
-#[derive(Clone, Copy, Debug)]
 pub struct Cell<N> {
     pub field: u16,
     /// Whether the field is kept when a structure is rewritten: one without a star.
@@ -81,8 +106,20 @@ pub struct Cell<N> {
     pub limits: Limits<N>,
 }
 
+impl<N: Copy> Copy for Cell<N> {}
+
+impl<N: Copy> Clone for Cell<N> {
+    ghost is_clone = { λ x y. y ≡ x };
+
+    ghost is_infallible = { λ _. ⊤ };
+
+    fn clone(&self) -> Result<Self, AllocError> {
+        Ok(*self)
+    }
+}
+
 /// How often a block of rows is there.
-#[derive(Clone, Copy, Debug)]
+#[derive(Clone, Copy)]
 pub enum Presence {
     /// Once where the formula isn't 0.
     When(Formula),
@@ -91,7 +128,7 @@ pub enum Presence {
 }
 
 /// A row of a table.
-#[derive(Clone, Copy, Debug)]
+#[derive(Clone, Copy)]
 pub enum Row {
     /// A field or a gap.
     Field(Cell<Formula>),
