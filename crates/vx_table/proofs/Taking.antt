@@ -1,5 +1,6 @@
 -- What a call of the bit reader says of the code that it takes.
-use Rattle.std.proofs.Common.{◌≡◌, ◌≢◌, ◌↔◌, ◌⊎◌, inl, inr, ℕ, ℤ, pos, ◌^◌, ◌<◌, [], length, Result, Ok, Err, refl, ap}
+use Rattle.std.proofs.Common.{◌≡◌, ◌≢◌, ◌↔◌, ◌⊎◌, inl, inr, ℕ, ℤ, pos, ◌^◌, ◌<◌, [], length, Result, Ok, Err, OnOk, OnErr, IfErr, refl, ap}
+use Rattle.std.specs.Result.{result_and, IsErrOf}
 use Rattle.vx_bits.specs.Codes.{fixed, exp_golomb, signed_exp_golomb, code_number, IsCodeNumber, zeros_from, one_from, BeginsWith, EndsWithinCode, BeginsTooLong}
 use Rattle.vx_bits.specs.Place.{Place, taken, Takes}
 use Rattle.vx_bits.specs.declared.refusal.BitCause.{BitCause}
@@ -76,3 +77,21 @@ pub trailing_missed : {T : Type 0} (old new : Place) (e : BitCause) → (e ≡ c
 unfolding Misses
 trailing_missed old new e (inl is) short bad same = rw is (short.0 (ap Err is), same)
 trailing_missed old new e (inr is) short bad same = rw is (bad.0 (ap Err is), same)
+
+-- what is taken of a gap: 0 for its bits
+pub zeros_answered : {T : Type 0} (old new : Place) (r : Result T BitCause) → OnOk r (Takes (zeros_from (taken old)) old new) → OnErr r (¬ BeginsWith old.left (zeros_from (taken old)))
+    → IfErr r (λ e. e ≡ causes.BadAlignment) → OnErr r (new ≡ old) → TakesCode Zeros old (result_and r (Ok (pos 0))) new
+zeros_answered old new (Ok x) took others is same = zeros_taken old new took
+zeros_answered old new (Err e) took others is same = zeros_missed old new e is others same
+
+pub one_answered : {T : Type 0} (old new : Place) (r : Result T BitCause) → OnOk r (Takes (one_from (taken old)) old new) → IfErr r (λ e. (e ≡ causes.Short) ⊎ (e ≡ causes.BadAlignment))
+    → (IsErrOf r causes.Short ↔ (old.left ≡ [])) → (IsErrOf r causes.BadAlignment ↔ ((old.left ≢ []) × (¬ BeginsWith old.left (one_from (taken old))))) → OnErr r (new ≡ old)
+    → TakesCode OneAndZeros old (result_and r (Ok (pos 0))) new
+one_answered old new (Ok x) took is short bad same = one_taken old new took
+one_answered old new (Err e) took is short bad same = one_missed old new e is short bad same
+
+pub trailing_answered : {T : Type 0} (old new : Place) (r : Result T BitCause) → OnOk r (Takes (one_from (taken old)) old new) → OnOk r (new.left ≡ [])
+    → IfErr r (λ e. (e ≡ causes.Short) ⊎ (e ≡ causes.BadTrailing)) → (IsErrOf r causes.Short ↔ (old.left ≡ []))
+    → (IsErrOf r causes.BadTrailing ↔ ((old.left ≢ []) × (old.left ≢ one_from (taken old)))) → OnErr r (new ≡ old) → TakesCode Trailing old (result_and r (Ok (pos 0))) new
+trailing_answered old new (Ok x) took last is short bad same = trailing_taken old new took last
+trailing_answered old new (Err e) took last is short bad same = trailing_missed old new e is short bad same

@@ -48,26 +48,31 @@ fn knows(known: &Names<'_>, term: Term) -> bool
     }
 }
 
+/// Whether two terms read only known names.
+fn knows_both(known: &Names<'_>, a: Term, b: Term) -> bool
+    ensures { result ≡ (test.knows (listed known.now) a && test.knows (listed known.now) b) }
+{
+    knows(known, a) && knows(known, b)
+}
+
 /// Whether a formula reads only known names.
 #[tactic(auto, unfolding(crate::specs::Claims::knows_formula))]
 fn knows_formula(known: &Names<'_>, formula: Formula) -> bool
     ensures { result ≡ test.knows_formula (listed known.now) formula }
 {
     match formula {
-        Formula::Plain(a) => knows(known, a),
-        Formula::Plus(a, b) => knows(known, a) && knows(known, b),
-        Formula::Minus(a, b) => knows(known, a) && knows(known, b),
-        Formula::Times(a, b) => knows(known, a) && knows(known, b),
-        Formula::Quotient(a, b) => knows(known, a) && knows(known, b),
-        Formula::Least(a, b) => knows(known, a) && knows(known, b),
-        Formula::PowerOfTwo(a) => knows(known, a),
-        Formula::CeilLog2(a) => knows(known, a),
-        Formula::Equal(a, b) => knows(known, a) && knows(known, b),
-        Formula::Differs(a, b) => knows(known, a) && knows(known, b),
-        Formula::Below(a, b) => knows(known, a) && knows(known, b),
-        Formula::AtMost(a, b) => knows(known, a) && knows(known, b),
-        Formula::Both(a, b) => knows(known, a) && knows(known, b),
-        Formula::Either(a, b) => knows(known, a) && knows(known, b),
+        Formula::Plain(a) | Formula::PowerOfTwo(a) | Formula::CeilLog2(a) => knows(known, a),
+        Formula::Plus(a, b)
+        | Formula::Minus(a, b)
+        | Formula::Times(a, b)
+        | Formula::Quotient(a, b)
+        | Formula::Least(a, b)
+        | Formula::Equal(a, b)
+        | Formula::Differs(a, b)
+        | Formula::Below(a, b)
+        | Formula::AtMost(a, b)
+        | Formula::Both(a, b)
+        | Formula::Either(a, b) => knows_both(known, a, b),
     }
 }
 

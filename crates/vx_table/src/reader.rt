@@ -29,18 +29,9 @@ pub fn take_code(bits: &mut BitReader<'_>, coding: Coding<u32>) -> Result<i64, B
         Coding::Fixed(width) => Ok(bits.u(width)? as i64),
         Coding::Golomb => Ok(i64::from(bits.ue()?)),
         Coding::SignedGolomb => Ok(i64::from(bits.se()?)),
-        Coding::Zeros => {
-            bits.align()?;
-            Ok(0)
-        }
-        Coding::OneAndZeros => {
-            bits.align_after_one()?;
-            Ok(0)
-        }
-        Coding::Trailing => {
-            bits.trailing()?;
-            Ok(0)
-        }
+        Coding::Zeros => bits.align().and(Ok(0)),
+        Coding::OneAndZeros => bits.align_after_one().and(Ok(0)),
+        Coding::Trailing => bits.trailing().and(Ok(0)),
         Coding::Absent => Ok(0),
         Coding::Refused => Err(BitCause::OutOfRange),
     }

@@ -110,12 +110,12 @@ impl Scope {
 
     /// The number of a term.
     #[inline(always)]
-    fn term(&self, term: &Term) -> u32
-        ensures { result ≡ latest self.now term.now }
+    fn term(&self, term: Term) -> u32
+        ensures { result ≡ latest self.now term }
     {
         match term {
-            Term::Number(number) => *number,
-            Term::Latest(of) => self.latest(*of),
+            Term::Number(number) => number,
+            Term::Latest(of) => self.latest(of),
         }
     }
 
@@ -125,7 +125,7 @@ impl Scope {
     pub(crate) fn number(&self, formula: &Formula) -> u32
         ensures { result ≡ value self.now formula.now }
     {
-        if let Formula::Plain(a) = formula {
+        if let Formula::Plain(a) = *formula {
             return self.term(a);
         }
         self.computed(*formula)
@@ -146,7 +146,7 @@ impl Scope {
     pub(crate) fn number_inlined(&self, formula: &Formula) -> u32
         ensures { result ≡ value self.now formula.now }
     {
-        match formula {
+        match *formula {
             Formula::Plain(a) => self.term(a),
             Formula::Plus(a, b) => self.term(a).saturating_add(self.term(b)),
             Formula::Minus(a, b) => self.term(a).saturating_sub(self.term(b)),

@@ -3,7 +3,7 @@ use Rattle.std.proofs.Math.Pow.{pow_mono}
 use mir.Val.{SFits}
 use Rattle.std.proofs.lemmas.Result.{err_from_is_err_and}
 use Rattle.std.proofs.lemmas.Int.{ints, to_z-of_z}
-use Rattle.vx_table.proofs.Taking.{fixed_taken, golomb_taken, signed_taken, zeros_taken, one_taken, trailing_taken, absent_taken, refused_missed, fixed_missed, golomb_missed, signed_missed, zeros_missed, one_missed, trailing_missed}
+use Rattle.vx_table.proofs.Taking.{fixed_taken, golomb_taken, signed_taken, zeros_answered, one_answered, trailing_answered, absent_taken, refused_missed, fixed_missed, golomb_missed, signed_missed}
 use Rattle.vx_table.proofs.reader.take_code.Goals as goal
 
 pub returns-in_err-u-in-Fixed : goal.returns-in_err-u-in-Fixed
@@ -23,25 +23,6 @@ returns-in_err-se-in-SignedGolomb c =
     let p = err_from_is_err_and c.from_residual-in_err-se-in-SignedGolomb.result c.from_residual-in_err-se-in-SignedGolomb.ensures.1 in
     let e = c.in_err-se-in-SignedGolomb.ensures in
     rw (p.1, p.2, c.in-SignedGolomb.is) (signed_missed _ _ _ e.cause e.short e.long e.unchanged)
-
-pub returns-in_err-align-in-Zeros : goal.returns-in_err-align-in-Zeros
-returns-in_err-align-in-Zeros c =
-    let p = err_from_is_err_and c.from_residual-in_err-align-in-Zeros.result c.from_residual-in_err-align-in-Zeros.ensures.1 in
-    let e = c.in_err-align-in-Zeros.ensures in
-    rw (p.1, p.2, c.in-Zeros.is) (zeros_missed _ _ _ e.cause e.others e.unchanged)
-
-pub returns-in_err-align_after_one-in-OneAndZeros :
-    goal.returns-in_err-align_after_one-in-OneAndZeros
-returns-in_err-align_after_one-in-OneAndZeros c =
-    let p = err_from_is_err_and c.from_residual-in_err-align_after_one-in-OneAndZeros.result c.from_residual-in_err-align_after_one-in-OneAndZeros.ensures.1 in
-    let e = c.in_err-align_after_one-in-OneAndZeros.ensures in
-    rw (p.1, p.2, c.in-OneAndZeros.is) (one_missed _ _ _ e.cause e.short e.bad e.unchanged)
-
-pub returns-in_err-trailing-in-Trailing : goal.returns-in_err-trailing-in-Trailing
-returns-in_err-trailing-in-Trailing c =
-    let p = err_from_is_err_and c.from_residual-in_err-trailing-in-Trailing.result c.from_residual-in_err-trailing-in-Trailing.ensures.1 in
-    let e = c.in_err-trailing-in-Trailing.ensures in
-    rw (p.1, p.2, c.in-Trailing.is) (trailing_missed _ _ _ e.cause e.short e.bad e.unchanged)
 
 pub returns-in_ok-u-in-Fixed : goal.returns-in_ok-u-in-Fixed
 returns-in_ok-u-in-Fixed c =
@@ -66,17 +47,20 @@ returns-in_ok-se-in-SignedGolomb c =
     rw (c.in-SignedGolomb.is, to_z-of_z w64 c.from-in-SignedGolomb.result fits, c.from-in-SignedGolomb.ensures, to_z-of_z w32 c.in_ok-se-in-SignedGolomb.field-0 narrow)
     (signed_taken _ _ _ e.0 e.1)
 
-pub returns-in_ok-align-in-Zeros : goal.returns-in_ok-align-in-Zeros
-returns-in_ok-align-in-Zeros c = rw c.in-Zeros.is (zeros_taken _ _ c.in_ok-align-in-Zeros.ensures.value)
+pub returns-in-Zeros : goal.returns-in-Zeros
+returns-in-Zeros c =
+    let e = c.align.ensures in
+    rw (c.in-Zeros.is, c.and.ensures) (zeros_answered _ _ _ e.value e.others e.cause e.unchanged)
 
-pub returns-in_ok-align_after_one-in-OneAndZeros :
-    goal.returns-in_ok-align_after_one-in-OneAndZeros
-returns-in_ok-align_after_one-in-OneAndZeros c = rw c.in-OneAndZeros.is (one_taken _ _ c.in_ok-align_after_one-in-OneAndZeros.ensures.value)
+pub returns-in-OneAndZeros : goal.returns-in-OneAndZeros
+returns-in-OneAndZeros c =
+    let e = c.align_after_one.ensures in
+    rw (c.in-OneAndZeros.is, c.and-in-OneAndZeros.ensures) (one_answered _ _ _ e.value e.cause e.short e.bad e.unchanged)
 
-pub returns-in_ok-trailing-in-Trailing : goal.returns-in_ok-trailing-in-Trailing
-returns-in_ok-trailing-in-Trailing c =
-    let e = c.in_ok-trailing-in-Trailing.ensures in
-    rw c.in-Trailing.is (trailing_taken _ _ e.value e.last)
+pub returns-in-Trailing : goal.returns-in-Trailing
+returns-in-Trailing c =
+    let e = c.trailing.ensures in
+    rw (c.in-Trailing.is, c.and-in-Trailing.ensures) (trailing_answered _ _ _ e.value e.last e.cause e.short e.bad e.unchanged)
 
 pub returns-in-Absent : goal.returns-in-Absent
 returns-in-Absent c = rw c.in-Absent.is (absent_taken _)
