@@ -1,5 +1,5 @@
 //! Picture order count (H.266 8.3.1).
-ghost use Rattle.std.specs.Prelude.{◌≡◌, ◌≤◌, ◌^◌, pos, neg_ℤ, ◌≤ℤ◌};
+ghost use Rattle.std.specs.Prelude.{◌≡◌, ◌≤◌, ◌^◌, pos, neg_ℤ, ◌-ℤ◌, ◌≤ℤ◌};
 ghost use Rattle.vx_pic.specs.Counts.{nearest_msb, msb_by, pic_order_count};
 ghost use Rattle.vx_pic.specs.Counted.{previous_of, checked};
 
@@ -27,13 +27,22 @@ pub struct CountFields {
     pub msb_cycle: Option<u32>,
 }
 
+/// prevPicOrderCntMsb.
+fn previous_msb(previous: PrevTid0) -> i64
+    ensures value { result ≡ previous.poc -ℤ pos previous.lsb }
+    ensures low { neg_ℤ (pos (2 ^ 33)) ≤ℤ result }
+    ensures high { result ≤ℤ pos (2 ^ 33) }
+{
+    i64::from(previous.poc) - i64::from(previous.lsb)
+}
+
 /// PicOrderCntMsb from prevTid0Pic, `max` being MaxPicOrderCntLsb.
 fn nearest(max: u32, lsb: u32, previous: PrevTid0) -> i64
     ensures value { result ≡ nearest_msb max lsb (previous_of previous) }
     ensures low { neg_ℤ (pos (2 ^ 50)) ≤ℤ result }
     ensures high { result ≤ℤ pos (2 ^ 50) }
 {
-    let msb = i64::from(previous.poc) - i64::from(previous.lsb);
+    let msb = previous_msb(previous);
     let (range, new, old) = (u64::from(max), u64::from(lsb), u64::from(previous.lsb));
     if new < old && range <= 2 * (old - new) {
         return msb + i64::from(max);
