@@ -1,16 +1,17 @@
 //! The decoding input of a slice.
-ghost use Rattle.std.specs.Prelude.{◌≡◌, ◌<◌, Some, length, slice_get, IfOk, IfSome};
+ghost use Rattle.std.specs.Prelude.{◌≡◌, ◌<◌, true, Some, length, drop, slice_get, option_map, option_copied, IfOk, IfSome};
 ghost use Rattle.vx_pic.specs.Readings as stream;
-ghost use Rattle.vx_pic.specs.Parts.{ShowsPicture};
-ghost use Rattle.vx_pic.specs.Inputs.{header_fields, input_in, input_of, pps_fields, kept_slice_items, sps_fields};
-ghost use Rattle.vx_pic.specs.Seen.{input_seen};
+ghost use Rattle.vx_pic.specs.Sets.{filter_items, is_qp, slice_qp};
+ghost use Rattle.vx_pic.specs.Parts.{ShowsPicture, part_of, read_of};
+ghost use Rattle.vx_pic.specs.Inputs.{header_fields, input_in, input_of, pps_fields, kept_slice_items, sps_fields, alf_of, lmcs_of, scaling_of, lists_in_force, place_in};
+ghost use Rattle.vx_pic.specs.Seen.{alf_seen, input_seen};
 
 use crate::in_force::{
     AlfInForce, alf_in_force, lists_of_slice, lmcs_in_force, scaling_in_force, slice_qp_of,
 };
 use crate::kept_fields::{kept_of_header, kept_of_pps, kept_of_slice, kept_of_sps};
 use crate::kind::Kind;
-use crate::picture::Picture;
+use crate::picture::{Picture, SliceView};
 use crate::place::{Place, place_of};
 use std::alloc::{AllocError, Global};
 use vx_bits::Kept;
@@ -75,6 +76,103 @@ fn kept_parts(
     })
 }
 
+/// What is in force at a slice.
+#[derive(Drop)]
+struct InForce<'a> {
+    alf: AlfInForce<'a>,
+    lmcs: Option<(&'a [u8], bool)>,
+    scaling: Option<&'a [u8]>,
+    lists: RefLists,
+    slice_qp: i32,
+}
+
+/// What is in force at a slice of a picture.
+fn in_force_at<'a>(
+    alloc: Global,
+    picture: &Picture<'a>,
+    slice: &SliceHeader,
+) -> Result<InForce<'a>, AllocError>
+    requires { is_qp picture.now.sps (slice_qp picture.now.pps picture.now.header.fields (read_of slice.now)) ≡ true }
+    ensures alf { IfOk result (λ here. alf_seen here.alf ≡ alf_of picture.now (filter_items picture.now.pps picture.now.header.fields (read_of slice.now))) }
+    ensures lmcs { IfOk result (λ here. option_map (λ x. (x.0.now, x.1)) here.lmcs ≡ lmcs_of picture.now slice.now) }
+    ensures scaling { IfOk result (λ here. option_copied here.scaling ≡ scaling_of picture.now slice.now) }
+    ensures lists { IfOk result (λ here. here.lists ≡ lists_in_force picture.now slice.now) }
+    ensures qp { IfOk result (λ here. here.slice_qp ≡ slice_qp picture.now.pps picture.now.header.fields (read_of slice.now)) }
+{
+    let lmcs = lmcs_in_force(picture, slice);
+    let scaling = scaling_in_force(picture, slice);
+    let slice_qp = slice_qp_of(picture, slice);
+    Ok(InForce {
+        alf: alf_in_force(alloc, picture, slice)?,
+        lmcs,
+        scaling,
+        lists: lists_of_slice(alloc, picture, slice)?,
+        slice_qp,
+    })
+}
+
+/// The decoding input of these parts.
+fn input_from<'a>(
+    kind: Kind,
+    kept: KeptParts,
+    here: InForce<'a>,
+    place: Place,
+    payload: &'a [u8],
+) -> DecodingInput<'a>
+    ensures { result ≡ record { kind = kind; sps = kept.sps; pps = kept.pps; header = kept.header; slice = kept.slice; alf = here.entry.alf; lmcs = here.entry.lmcs; scaling = here.entry.scaling; lists = here.entry.lists; slice_qp = here.entry.slice_qp; place = place; payload = payload.entry } }
+{
+    DecodingInput {
+        kind,
+        sps: kept.sps,
+        pps: kept.pps,
+        header: kept.header,
+        slice: kept.slice,
+        alf: here.alf,
+        lmcs: here.lmcs,
+        scaling: here.scaling,
+        lists: here.lists,
+        slice_qp: here.slice_qp,
+        place,
+        payload,
+    }
+}
+
+/// What is in force at a slice of a picture, and its place.
+fn here_and_place<'a>(
+    alloc: Global,
+    picture: &Picture<'a>,
+    slice: &SliceHeader,
+) -> Result<(InForce<'a>, Place), AllocError>
+    requires subpic { slice.now.subpic < length picture.now.layout.subpics }
+    requires qp { is_qp picture.now.sps (slice_qp picture.now.pps picture.now.header.fields (read_of slice.now)) ≡ true }
+    ensures alf { IfOk result (λ x. alf_seen x.0.alf ≡ alf_of picture.now (filter_items picture.now.pps picture.now.header.fields (read_of slice.now))) }
+    ensures lmcs { IfOk result (λ x. option_map (λ y. (y.0.now, y.1)) x.0.lmcs ≡ lmcs_of picture.now slice.now) }
+    ensures scaling { IfOk result (λ x. option_copied x.0.scaling ≡ scaling_of picture.now slice.now) }
+    ensures lists { IfOk result (λ x. x.0.lists ≡ lists_in_force picture.now slice.now) }
+    ensures qp { IfOk result (λ x. x.0.slice_qp ≡ slice_qp picture.now.pps picture.now.header.fields (read_of slice.now)) }
+    ensures place { IfOk result (λ x. x.1 ≡ place_in picture.now slice.now.subpic slice.now.address) }
+{
+    let here = in_force_at(alloc, picture, slice)?;
+    let place = place_of(alloc, picture, slice.subpic, slice.address)?;
+    Ok((here, place))
+}
+
+/// The decoding input of a slice that a picture lends.
+fn input_of_view<'a>(
+    alloc: Global,
+    picture: &Picture<'a>,
+    slice: SliceView<'a>,
+) -> Result<DecodingInput<'a>, AllocError>
+    requires suffix { slice.payload.now ≡ drop (part_of slice).payload slice.unit.now }
+    requires subpic { slice.header.now.subpic < length picture.now.layout.subpics }
+    requires qp { is_qp picture.now.sps (slice_qp picture.now.pps picture.now.header.fields (read_of slice.header.now)) ≡ true }
+    ensures { IfOk result (λ input. input_seen input ≡ input_in picture.now (part_of slice.entry)) }
+{
+    let kept = kept_parts(alloc, picture, slice.header)?;
+    let (here, place) = here_and_place(alloc, picture, slice.header)?;
+    Ok(input_from(picture.kind(), kept, here, place, slice.payload))
+}
+
 /// The decoding input of a slice of a picture, as callers see both.
 fn input_at<'a>(
     alloc: Global,
@@ -84,22 +182,7 @@ fn input_at<'a>(
     requires { i < length picture.now.slices }
     ensures { IfOk result (λ input. IfSome (slice_get picture.now.slices i) (λ s. input_seen input ≡ input_in picture.now s)) }
 {
-    let slice = picture.slice(i);
-    let kept = kept_parts(alloc, picture, slice.header)?;
-    Ok(DecodingInput {
-        kind: picture.kind(),
-        sps: kept.sps,
-        pps: kept.pps,
-        header: kept.header,
-        slice: kept.slice,
-        alf: alf_in_force(alloc, picture, slice.header)?,
-        lmcs: lmcs_in_force(picture, slice.header),
-        scaling: scaling_in_force(picture, slice.header),
-        lists: lists_of_slice(alloc, picture, slice.header)?,
-        slice_qp: slice_qp_of(picture, slice.header),
-        place: place_of(alloc, picture, slice.header.subpic, slice.header.address)?,
-        payload: slice.payload,
-    })
+    input_of_view(alloc, picture, picture.slice(i))
 }
 
 /// The decoding input of a slice of a picture, counted from 0 in the order of the picture. Bodies and payload are borrowed.
