@@ -5,7 +5,7 @@ use Rattle.vx_assemble.proofs.feed.Feed.next_with.Goals as goal
 
 pub returns-in-Ok : goal.returns-in-Ok
 returns-in-Ok g c =
-    let first : c.self.inside.first ≡ None = search rules in
+    let first : c.self.inside.first ≡ None = c.in_default.is in
     record {
       answer = λ R of b places before fed.
           let old = rw first at (rw (← c.self.view_is) at fed) in
@@ -38,7 +38,7 @@ returns-in-Ok g c =
 
 pub returns-in-Err : goal.returns-in-Err
 returns-in-Err g c =
-    let first : c.self.inside.first ≡ None = search rules in
+    let first : c.self.inside.first ≡ None = c.in_default.is in
     let f = feeding c.take_seen.new.reader c.take_seen.new.assembler c.take_seen.new.units in
     record {
       answer = λ R of b places before fed.
@@ -48,7 +48,7 @@ returns-in-Err g c =
           let old = rw first at (rw (← c.self.view_is) at fed) in
           still_seen_refused (g.V.UnitView.sees R of) g.V.UnitView.nothing R b places before f f _ _ refl (c.in-Err.ensures.seen R of b places before old);
       going = tt;
-      first = search rules;
+      first = rw c.first_of.ensures refl;
       again = λ f is. let some = rw first at (rw (← c.self.view_is) at is) in absurd (cc);
       «open» = λ is. absurd (cc);
       sought = λ is. absurd (cc);
