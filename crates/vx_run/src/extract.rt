@@ -14,7 +14,7 @@ ghost use Rattle.vx_run.specs.Conclusion.{IsOfCommand};
 ghost use Rattle.vx_run.specs.Extract.{ExtractsBy, ChecksBy, ok_text};
 ghost use Rattle.vx_bits.specs.declared.refusal.Refusal.TheVariants.{Extract};
 ghost use Rattle.vx_run.specs.ReadAgain.{IsReadAgain};
-ghost use Rattle.vx_run.specs.inner.Extracting.{ExtractsOne, ExtractsNext, ChecksOne, ChecksLatest, ChecksNext, CountsBy, HasChecked, HasExtracted, HaveSlices, IsTask, TakenIsReadAgain};
+ghost use Rattle.vx_run.specs.inner.Extracting.{ExtractsOne, ExtractsNext, ChecksOne, ChecksLatest, ChecksNext, CountsBy, HasChecked, HasExtracted, HasTaken, HaveSlices, IsTask, TakenIsReadAgain, task_of};
 ghost use Rattle.vx_run.specs.declared.extract.Task.{Task};
 ghost use Rattle.vx_run.specs.declared.stop.Place.TheVariants as places;
 ghost use Rattle.vx_run.specs.declared.stop.Stop.TheVariants as stops;
@@ -55,9 +55,44 @@ pub(crate) fn extract<K: Sink>(
 {
     extractions_read_again();
     let mut feed = Feed::new(alloc)?;
+    extract_fed(alloc, task, &mut feed, source, out)
+}
+
+/// Writes the subpicture of each picture of a source that is kept, of which nothing was read.
+fn extract_fed<K: Sink>(
+    alloc: Global,
+    task: Task,
+    feed: &mut Feed,
+    source: &mut Box<dyn Source>,
+    out: &mut K,
+) -> Result<(), Stop>
+    requires tid { task.tid ≤ 6 }
+    requires none { (R : Readers) → AreOfH266 R → HasTaken R (change bytes_left read_faults source.old source.old) feed.old [] }
+    ensures extracts { (R : Readers) → AreOfH266 R → ExtractsBy R task (change bytes_left read_faults source.old source.new)
+        (change K.bytes_taken K.write_faults out.old out.new) result }
+    ensures stop { IfErr result IsOfCommand }
+{
+    extractions_read_again();
     let mut extractor = Extractor::limited(alloc, task.target, task.level, task.tid);
+    extract_pictures(feed, &mut extractor, source, out)
+}
+
+/// [`extract_fed`], by an extractor that has seen none.
+fn extract_pictures<K: Sink>(
+    feed: &mut Feed,
+    extractor: &mut Extractor,
+    source: &mut Box<dyn Source>,
+    out: &mut K,
+) -> Result<(), Stop>
+    requires again { (R : Readers) → AreOfH266 R → TakenIsReadAgain R (task_of extractor.old) }
+    requires none { (R : Readers) → AreOfH266 R → HasExtracted R (task_of extractor.old) (change bytes_left read_faults source.old source.old)
+        (change K.bytes_taken K.write_faults out.old out.old) feed.old extractor.old 0 }
+    ensures extracts { (R : Readers) → AreOfH266 R → ExtractsBy R (task_of extractor.old) (change bytes_left read_faults source.old source.new)
+        (change K.bytes_taken K.write_faults out.old out.new) result }
+    ensures stop { IfErr result IsOfCommand }
+{
     let mut pictures = 0;
-    while extract_next(&mut feed, &mut extractor, pictures, source, out)? {
+    while extract_next(feed, extractor, pictures, source, out)? {
         pictures = one_more(pictures, feed.unit());
     }
     some_picture(pictures)
@@ -127,10 +162,41 @@ fn count_kept(alloc: Global, task: Task, source: &mut Box<dyn Source>) -> Result
     ensures stop { IfErr result IsOfCommand }
 {
     let mut feed = Feed::new(alloc)?;
+    count_fed(alloc, task, &mut feed, source)
+}
+
+/// How many pictures of a source are kept, of which nothing was read, where the subpicture can be extracted.
+fn count_fed(
+    alloc: Global,
+    task: Task,
+    feed: &mut Feed,
+    source: &mut Box<dyn Source>,
+) -> Result<u64, Stop>
+    requires tid { task.tid ≤ 6 }
+    requires none { (R : Readers) → AreOfH266 R → HasTaken R (change bytes_left read_faults source.old source.old) feed.old [] }
+    ensures counts { (R : Readers) → AreOfH266 R → CountsBy R task (change bytes_left read_faults source.old source.new) result }
+    ensures stop { IfErr result IsOfCommand }
+{
     let mut extractor = Extractor::limited(alloc, task.target, task.level, task.tid);
+    count_pictures(task, feed, &mut extractor, source)
+}
+
+/// [`count_fed`], by an extractor that has seen none.
+fn count_pictures(
+    task: Task,
+    feed: &mut Feed,
+    extractor: &mut Extractor,
+    source: &mut Box<dyn Source>,
+) -> Result<u64, Stop>
+    requires task { IsTask task extractor.old }
+    requires going { extractor.old.first ≡ None }
+    requires none { (R : Readers) → AreOfH266 R → HasChecked R task (change bytes_left read_faults source.old source.old) feed.old 0 0 }
+    ensures counts { (R : Readers) → AreOfH266 R → CountsBy R task (change bytes_left read_faults source.old source.new) result }
+    ensures stop { IfErr result IsOfCommand }
+{
     let mut pictures = 0;
     let mut kept = 0;
-    while let Some(stays) = check_next(task.tid, &mut feed, &mut extractor, pictures, source)? {
+    while let Some(stays) = check_next(task.tid, feed, extractor, pictures, source)? {
         pictures = one_more(pictures, feed.unit());
         kept = with_one(stays, kept, pictures);
     }

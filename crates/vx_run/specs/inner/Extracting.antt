@@ -57,6 +57,10 @@ pub record IsTask (t : Task) (x : Extracting) : Type 0 where
   pub level : x.level ≡ t.level
   pub tid : x.tid ≡ t.tid
 
+-- the task that an extractor has
+abbrev pub task_of : Extracting → Task
+task_of x = record { target = x.target; level = x.level; tid = x.tid }
+
 -- ---- one step
 
 -- What became of a picture behind those that are written so, and behind n pictures in all, of a sink with these bytes and this count.
