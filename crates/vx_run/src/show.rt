@@ -19,7 +19,7 @@ ghost use Rattle.vx_run.specs.Change.{change};
 ghost use Rattle.vx_run.specs.Conclusion.{IsOfCommand};
 ghost use Rattle.vx_run.specs.Show.{ShowsBy, teller, refused_field, set_lines, picture_lines, unit_lines};
 ghost use Rattle.vx_assemble.specs.Feed.{seen_of};
-ghost use Rattle.vx_run.specs.inner.Showing.{seen_by, ReadsOn, GathersNext, Gathers, ShowsLater};
+ghost use Rattle.vx_run.specs.inner.Showing.{seen_by, ReadsOn, GathersNext, Gathers, HasShown, ShowsLater};
 
 use crate::stop::{Place, Stop};
 use std::alloc::{AllocError, Global};
@@ -45,11 +45,29 @@ pub(crate) fn show<K: Sink>(
     ensures stop { IfErr result IsOfCommand }
 {
     let mut feed = Feed::new(alloc)?;
+    show_fed(alloc, fields, &mut feed, source, out)
+}
+
+/// Writes the lines of a source of which nothing was read.
+fn show_fed<K: Sink>(
+    alloc: Global,
+    fields: bool,
+    feed: &mut Feed,
+    source: &mut Box<dyn Source>,
+    out: &mut K,
+) -> Result<(), Stop>
+    requires sought { IsOpen feed.old → IsSought feed.old.reader.splitter }
+    requires none { (R : Readers) (h : AreOfH266 R) → HasShown R (teller fields R h) (change bytes_left read_faults source.old source.old)
+        (change K.bytes_taken K.write_faults out.old out.old) feed.old 0 }
+    ensures shows { (R : Readers) (h : AreOfH266 R) → ShowsBy R (teller fields R h) (change bytes_left read_faults source.old source.new)
+        (change K.bytes_taken K.write_faults out.old out.new) result }
+    ensures stop { IfErr result IsOfCommand }
+{
     let mut lines = Vec::new(alloc);
     let mut pictures = 0;
     while feed.is_open() {
-        read_on(&mut feed, source)?;
-        pictures = show_seen(alloc, &mut feed, fields, pictures, &mut lines, out)?;
+        read_on(feed, source)?;
+        pictures = show_seen(alloc, feed, fields, pictures, &mut lines, out)?;
     }
     Ok(())
 }

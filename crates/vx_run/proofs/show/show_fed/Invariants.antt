@@ -5,7 +5,7 @@ use Rattle.vx_assemble.specs.Feed.{IsOpen}
 use Rattle.vx_run.specs.Change.{change}
 use Rattle.vx_run.specs.Show.{teller}
 use Rattle.vx_run.specs.inner.Showing.{HasShown, left_to_read}
-use Rattle.vx_run.proofs.show.show.Given as goal
+use Rattle.vx_run.proofs.show.show_fed.Given as goal
 
 -- all units that are seen were shown
 abbrev pub invariant-loop-alloc : goal.invariant-loop-alloc
