@@ -4,6 +4,7 @@ pub mod Feeding
 pub mod Seeking
 pub mod Advancing
 pub mod Steps
+pub mod Stopping
 pub mod Fronts
 pub mod Holding
 pub mod Again

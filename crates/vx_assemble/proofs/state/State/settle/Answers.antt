@@ -1,0 +1,13 @@
+use Rattle.std.proofs.lemmas.Result.{err_from_is_err_and}
+use Rattle.vx_assemble.proofs.state.State.settle.Goals as goal
+
+pub returns-in_default-clause-order : goal.returns-in_default-clause-order
+returns-in_default-clause-order c = c.requires.order
+
+pub returns-in_default-clause-done : goal.returns-in_default-clause-done
+returns-in_default-clause-done c is = absurd (cc)
+
+pub returns-in_err-whole : goal.returns-in_err-whole
+returns-in_err-whole c =
+    let p = err_from_is_err_and c.from_residual.result c.from_residual.ensures.1 in
+    record { ok = rw p.1 tt; order = c.requires.order; done = rw p.1 tt }
