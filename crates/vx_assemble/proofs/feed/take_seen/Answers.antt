@@ -173,7 +173,7 @@ returns-then-is_open g c =
     let going : c.next.new.self.closed ≡ None = c.if-is_open.ensures.«open» refl in
     record {
       answer = λ R of b places before fed.
-          gives_none R b places before _ _ fed (finds b places fed.read) refl refl refl going;
+          gives_none R b places before (feeding c.args.reader.now c.args.assembler.now c.args.units.now) (feeding c.next.new.self c.args.assembler.now c.args.units.now) fed (finds b places fed.read) refl refl refl going;
       seen = λ R of b places before fed. c.look_away.ensures;
       count = omega (arith, c.in_ok-span.ensures.stays);
       fed = c.next.ensures.lends.fed;
@@ -200,7 +200,7 @@ returns g c =
     let some : IsSome c.next.new.self.closed = c.if-is_open.ensures.closed (λ is. absurd (cc)) in
     record {
       answer = λ R of b places before fed.
-          gives_end R b places before _ _ fed (finds b places fed.read) some (λ failed. c.requires.going (sym c.next.ensures.closed ∙ failed))
+          gives_end R b places before (feeding c.args.reader.now c.args.assembler.now c.args.units.now) (feeding c.next.new.self c.finish.new.self c.args.units.now) fed (finds b places fed.read) some (λ failed. c.requires.going (sym c.next.ensures.closed ∙ failed))
           (c.in_ok-finish.ensures.answer before fed.stands) (rw c.in_ok-finish.ensures.same fed.stands) refl refl;
       seen = λ R of b places before fed. c.look_away.ensures;
       count = omega (arith, c.in_ok-span.ensures.stays);

@@ -56,3 +56,53 @@ returns-in-Some-clause-end g c ends = c.in_ok-taken.ensures.end (c.loop-taken.in
 
 pub returns-in_err-taken-clause-end : goal.returns-in_err-taken-clause-end
 returns-in_err-taken-clause-end g c ends = c.in_err-taken.ensures.end (c.loop-taken.invariant.end ends)
+
+pub returns-in-Some-clause-going : goal.returns-in-Some-clause-going
+returns-in-Some-clause-going g c = c.in_ok-taken.ensures.going
+
+pub returns-in-Some-clause-kept : goal.returns-in-Some-clause-kept
+returns-in-Some-clause-kept g c R of bytes places before fed needed = tt
+
+pub returns-in-Some-clause-few : goal.returns-in-Some-clause-few
+returns-in-Some-clause-few g c = c.in_ok-taken.ensures.few
+
+pub returns-in-Some-clause-first : goal.returns-in-Some-clause-first
+returns-in-Some-clause-first g c = tt
+
+pub returns-in-Some-clause-held : goal.returns-in-Some-clause-held
+returns-in-Some-clause-held g c = c.take.ensures.held
+
+pub returns-in-Some-clause-bytes : goal.returns-in-Some-clause-bytes
+returns-in-Some-clause-bytes g c = c.take.ensures.bytes
+
+pub returns-in-Some-clause-bounded : goal.returns-in-Some-clause-bounded
+returns-in-Some-clause-bounded g c = c.take.ensures.bounded
+
+pub returns-in_err-taken-clause-picture : goal.returns-in_err-taken-clause-picture
+returns-in_err-taken-clause-picture g c is =
+    let p = err_from_is_err_and c.from_residual.result c.from_residual.ensures.1 in
+    let e = p.1 in absurd (cc)
+
+pub returns-in_err-taken-clause-going : goal.returns-in_err-taken-clause-going
+returns-in_err-taken-clause-going g c =
+    let p = err_from_is_err_and c.from_residual.result c.from_residual.ensures.1 in
+    rw p.1 tt
+
+pub returns-in_err-taken-clause-few : goal.returns-in_err-taken-clause-few
+returns-in_err-taken-clause-few g c =
+    let p = err_from_is_err_and c.from_residual.result c.from_residual.ensures.1 in
+    rw p.1 tt
+
+pub returns-in_err-taken-clause-first : goal.returns-in_err-taken-clause-first
+returns-in_err-taken-clause-first g c =
+    let p = err_from_is_err_and c.from_residual.result c.from_residual.ensures.1 in
+    rw (p.1, p.2) c.in_err-taken.ensures.first
+
+pub returns-in_err-taken-clause-held : goal.returns-in_err-taken-clause-held
+returns-in_err-taken-clause-held g c = c.take.ensures.held
+
+pub returns-in_err-taken-clause-bytes : goal.returns-in_err-taken-clause-bytes
+returns-in_err-taken-clause-bytes g c = c.take.ensures.bytes
+
+pub returns-in_err-taken-clause-bounded : goal.returns-in_err-taken-clause-bounded
+returns-in_err-taken-clause-bounded g c = c.take.ensures.bounded

@@ -1,4 +1,4 @@
-use Rattle.std.proofs.Common.{◌≡◌, ◌≤◌, ◌∙◌, ap, sym, rules}
+use Rattle.std.proofs.Common.{◌≡◌, ◌≤◌, ◌∙◌, Ok, ap, sym}
 use Rattle.std.proofs.lemmas.Result.{err_from_is_err_and}
 use Rattle.vx_annexb.proofs.Needed.{fewer_reads}
 use Rattle.vx_assemble.specs.Feed.{Feeding, IsOpen}
@@ -49,16 +49,16 @@ returns-in_err-read-clause-stopped g c first is =
 
 pub loop-taken-preserved : goal.loop-taken-preserved
 loop-taken-preserved g c =
-    let units : c.next.new.self.units ≡ c.loop-taken.self.units = search rules in
-    let going : IsOpen c.next.new.self = search rules in
+    let units : c.next.new.self.units ≡ c.loop-taken.self.units = c.in_ok-taken.ensures.units (ap Ok c.in_default.is) in
+    let going : IsOpen c.next.new.self = c.in_ok-taken.ensures.«open» (ap Ok c.in_default.is) in
     seeks_more _ _ _ _ _ _ _ c.loop-taken.invariant (rw c.in_default.is at c.in_ok-taken.ensures.answer) going.reader _ _ _ c.in_ok-read.ensures.answer
     c.in_ok-read.ensures.end (λ first is. let e = (c.in_ok-taken.ensures.again first is).0 in absurd (cc))
     units c.read.ensures.units
 
 pub loop-taken-smaller : goal.loop-taken-smaller
 loop-taken-smaller g c =
-    let going : IsOpen c.next.new.self = search rules in
-    let within : c.next.new.self.reader.taken ≤ 1099511627776 = search rules in
+    let going : IsOpen c.next.new.self = c.in_ok-taken.ensures.«open» (ap Ok c.in_default.is) in
+    let within : c.next.new.self.reader.taken ≤ 1099511627776 = c.in_ok-taken.ensures.within (ap Ok c.in_default.is) in
     fewer_reads _ _ _ _ (sym c.next.ensures.closed ∙ going.reader) (rw c.next.ensures.taken at within)
     (λ open_. rw c.next.ensures.taken at (c.in_ok-read.ensures.grows (record { reader = open_; going = c.in_ok-read.ensures.going })))
 
@@ -76,8 +76,97 @@ returns-in_err-read-clause-end g c going end = absurd (c.in_err-read.ensures.une
 pub returns-in_err-read-clause-kept : goal.returns-in_err-read-clause-kept
 returns-in_err-read-clause-kept g c =
     let p = err_from_is_err_and c.from_residual-in_err-read.result c.from_residual-in_err-read.ensures.1 in
-    let units : c.next.new.self.units ≡ c.loop-taken.self.units = search rules in
+    let units : c.next.new.self.units ≡ c.loop-taken.self.units = c.in_ok-taken.ensures.units (ap Ok c.in_default.is) in
     rw p.1 (c.read.ensures.units ∙ units ∙ c.loop-taken.invariant.units)
 
 pub returns-in-Some-clause-told : goal.returns-in-Some-clause-told
 returns-in-Some-clause-told g c = rw c.in-Some.is at c.in_ok-taken.ensures.told
+
+pub returns-in_err-taken-clause-first : goal.returns-in_err-taken-clause-first
+returns-in_err-taken-clause-first g c =
+    let p = err_from_is_err_and c.from_residual.result c.from_residual.ensures.1 in
+    rw (p.1, p.2) c.in_err-taken.ensures.first
+
+pub returns-in_err-taken-clause-counts : goal.returns-in_err-taken-clause-counts
+returns-in_err-taken-clause-counts g c =
+    let p = err_from_is_err_and c.from_residual.result c.from_residual.ensures.1 in
+    rw p.1 tt
+
+pub returns-in_err-taken-clause-few : goal.returns-in_err-taken-clause-few
+returns-in_err-taken-clause-few g c =
+    let p = err_from_is_err_and c.from_residual.result c.from_residual.ensures.1 in
+    rw p.1 tt
+
+pub returns-in_err-taken-clause-going : goal.returns-in_err-taken-clause-going
+returns-in_err-taken-clause-going g c =
+    let p = err_from_is_err_and c.from_residual.result c.from_residual.ensures.1 in
+    rw p.1 tt
+
+pub returns-in_err-taken-clause-told : goal.returns-in_err-taken-clause-told
+returns-in_err-taken-clause-told g c =
+    let p = err_from_is_err_and c.from_residual.result c.from_residual.ensures.1 in
+    rw p.1 tt
+
+pub returns-in_err-taken-clause-held : goal.returns-in_err-taken-clause-held
+returns-in_err-taken-clause-held g c = c.next.ensures.held
+
+pub returns-in_err-taken-clause-bytes : goal.returns-in_err-taken-clause-bytes
+returns-in_err-taken-clause-bytes g c = c.next.ensures.bytes
+
+pub returns-in_err-taken-clause-bounded : goal.returns-in_err-taken-clause-bounded
+returns-in_err-taken-clause-bounded g c = c.next.ensures.bounded
+
+pub returns-in-Some-clause-first : goal.returns-in-Some-clause-first
+returns-in-Some-clause-first g c = tt
+
+pub returns-in-Some-clause-few : goal.returns-in-Some-clause-few
+returns-in-Some-clause-few g c = c.in_ok-taken.ensures.few
+
+pub returns-in-Some-clause-kept : goal.returns-in-Some-clause-kept
+returns-in-Some-clause-kept g c = tt
+
+pub returns-in-Some-clause-going : goal.returns-in-Some-clause-going
+returns-in-Some-clause-going g c = c.in_ok-taken.ensures.going
+
+pub returns-in-Some-clause-held : goal.returns-in-Some-clause-held
+returns-in-Some-clause-held g c = c.next.ensures.held
+
+pub returns-in-Some-clause-bytes : goal.returns-in-Some-clause-bytes
+returns-in-Some-clause-bytes g c = c.next.ensures.bytes
+
+pub returns-in-Some-clause-bounded : goal.returns-in-Some-clause-bounded
+returns-in-Some-clause-bounded g c = c.next.ensures.bounded
+
+pub returns-in_err-read-clause-first : goal.returns-in_err-read-clause-first
+returns-in_err-read-clause-first g c =
+    let p = err_from_is_err_and c.from_residual-in_err-read.result c.from_residual-in_err-read.ensures.1 in
+    rw (p.1, p.2) c.in_err-read.ensures.first
+
+pub returns-in_err-read-clause-counts : goal.returns-in_err-read-clause-counts
+returns-in_err-read-clause-counts g c =
+    let p = err_from_is_err_and c.from_residual-in_err-read.result c.from_residual-in_err-read.ensures.1 in
+    rw p.1 tt
+
+pub returns-in_err-read-clause-few : goal.returns-in_err-read-clause-few
+returns-in_err-read-clause-few g c =
+    let p = err_from_is_err_and c.from_residual-in_err-read.result c.from_residual-in_err-read.ensures.1 in
+    rw p.1 tt
+
+pub returns-in_err-read-clause-going : goal.returns-in_err-read-clause-going
+returns-in_err-read-clause-going g c =
+    let p = err_from_is_err_and c.from_residual-in_err-read.result c.from_residual-in_err-read.ensures.1 in
+    rw p.1 tt
+
+pub returns-in_err-read-clause-told : goal.returns-in_err-read-clause-told
+returns-in_err-read-clause-told g c =
+    let p = err_from_is_err_and c.from_residual-in_err-read.result c.from_residual-in_err-read.ensures.1 in
+    rw p.1 tt
+
+pub returns-in_err-read-clause-held : goal.returns-in_err-read-clause-held
+returns-in_err-read-clause-held g c = c.read.ensures.held
+
+pub returns-in_err-read-clause-bytes : goal.returns-in_err-read-clause-bytes
+returns-in_err-read-clause-bytes g c = c.read.ensures.bytes
+
+pub returns-in_err-read-clause-bounded : goal.returns-in_err-read-clause-bounded
+returns-in_err-read-clause-bounded g c = c.read.ensures.bounded

@@ -36,3 +36,38 @@ loop-step-preserved c =
 
 pub loop-step-smaller : goal.loop-step-smaller
 loop-step-smaller c = c.in_ok-step.ensures.falls (ap Ok c.in_default.is)
+
+pub returns-in-Some-clause-going : goal.returns-in-Some-clause-going
+returns-in-Some-clause-going c = c.in_ok-step.ensures.going
+
+pub returns-in-Some-clause-first : goal.returns-in-Some-clause-first
+returns-in-Some-clause-first c = tt
+
+pub returns-in-Some-clause-few : goal.returns-in-Some-clause-few
+returns-in-Some-clause-few c = c.in_ok-step.ensures.few
+
+pub returns-in-Some-clause-bounded : goal.returns-in-Some-clause-bounded
+returns-in-Some-clause-bounded c = c.step.ensures.bounded
+
+pub returns-in_err-step-clause-picture : goal.returns-in_err-step-clause-picture
+returns-in_err-step-clause-picture c is =
+    let p = err_from_is_err_and c.from_residual.result c.from_residual.ensures.1 in
+    let e = p.1 in absurd (cc)
+
+pub returns-in_err-step-clause-going : goal.returns-in_err-step-clause-going
+returns-in_err-step-clause-going c =
+    let p = err_from_is_err_and c.from_residual.result c.from_residual.ensures.1 in
+    rw p.1 tt
+
+pub returns-in_err-step-clause-first : goal.returns-in_err-step-clause-first
+returns-in_err-step-clause-first c =
+    let p = err_from_is_err_and c.from_residual.result c.from_residual.ensures.1 in
+    rw (p.1, p.2) c.in_err-step.ensures.first
+
+pub returns-in_err-step-clause-few : goal.returns-in_err-step-clause-few
+returns-in_err-step-clause-few c =
+    let p = err_from_is_err_and c.from_residual.result c.from_residual.ensures.1 in
+    rw p.1 tt
+
+pub returns-in_err-step-clause-bounded : goal.returns-in_err-step-clause-bounded
+returns-in_err-step-clause-bounded c = c.step.ensures.bounded

@@ -43,3 +43,39 @@ returns-in-End-clause-answer c R h before held =
 pub returns-in-Sei-clause-answer : goal.returns-in-Sei-clause-answer
 returns-in-Sei-clause-answer c R h before held =
     as_class R c.args.class classes.Sei before c.args.unit.bytes.now c.take_sei.new.self c.take_sei.result c.in-Sei.is (c.take_sei.ensures.answer R h before held)
+
+pub returns-in-Vps-clause-order : goal.returns-in-Vps-clause-order
+returns-in-Vps-clause-order c = c.take_vps.ensures.order
+
+pub returns-in-Sps-clause-order : goal.returns-in-Sps-clause-order
+returns-in-Sps-clause-order c = c.take_sps.ensures.order
+
+pub returns-in-Pps-clause-order : goal.returns-in-Pps-clause-order
+returns-in-Pps-clause-order c = c.take_pps.ensures.order
+
+pub returns-in-PrefixAps-clause-order : goal.returns-in-PrefixAps-clause-order
+returns-in-PrefixAps-clause-order c = c.take_prefix_aps.ensures.order
+
+pub returns-in-SuffixAps-clause-order : goal.returns-in-SuffixAps-clause-order
+returns-in-SuffixAps-clause-order c = c.take_suffix_aps.ensures.order
+
+pub returns-in-Header-clause-order : goal.returns-in-Header-clause-order
+returns-in-Header-clause-order c = c.take_header.ensures.order
+
+pub returns-in-Slice-clause-order : goal.returns-in-Slice-clause-order
+returns-in-Slice-clause-order c = c.take_slice.ensures.order
+
+pub returns-in-End-clause-order : goal.returns-in-End-clause-order
+returns-in-End-clause-order c = c.take_end.ensures.order
+
+pub returns-in-Sei-clause-order : goal.returns-in-Sei-clause-order
+returns-in-Sei-clause-order c = c.take_sei.ensures.order
+
+pub returns-in-Slice-clause-done : goal.returns-in-Slice-clause-done
+returns-in-Slice-clause-done c = c.take_slice.ensures.done
+
+pub returns-in-Other-clause-order : goal.returns-in-Other-clause-order
+returns-in-Other-clause-order c = c.requires
+
+pub returns-in-Other-clause-done : goal.returns-in-Other-clause-done
+returns-in-Other-clause-done c is = absurd (cc)

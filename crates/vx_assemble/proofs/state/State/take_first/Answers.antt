@@ -18,3 +18,17 @@ returns-clause-answer c R h before held b head =
     c.requires.picture c.in_ok-opened.ensures.bodies
     (c.in_ok-opened.ensures.answer R h before held b (headed_fresh c.args.self.now.picture c.in-Headed.begun b (ap header_at c.in-Headed.is) head))
     c.in_ok-put_first.ensures.ok c.in_ok-put_first.ensures.order.picture c.in_ok-settle.ensures.ok
+
+pub returns-in_err-opened-clause-order : goal.returns-in_err-opened-clause-order
+returns-in_err-opened-clause-order c = c.requires
+
+pub returns-in_err-opened-clause-done : goal.returns-in_err-opened-clause-done
+returns-in_err-opened-clause-done c =
+    let p = err_from_is_err_and c.from_residual.result c.from_residual.ensures.1 in
+    rw p.1 tt
+
+pub returns-clause-order : goal.returns-clause-order
+returns-clause-order c = c.settle.ensures.order
+
+pub returns-clause-done : goal.returns-clause-done
+returns-clause-done c = c.in_ok-settle.ensures.done

@@ -20,3 +20,17 @@ returns-clause-answer c R h before held p is whole =
     (c.in_ok-read.ensures.answer R h p
     (going_at _ s.picture p (going_kept s before p held is) (ap header_at c.in-Going.is) (ap kind_at c.in-Going.is) refl c.len.ensures c.len-2.ensures))
     c.in_ok-put_slice.ensures.ok c.in_ok-put_slice.ensures.order.picture c.in_ok-settle.ensures.ok
+
+pub returns-in_err-read-clause-order : goal.returns-in_err-read-clause-order
+returns-in_err-read-clause-order c = c.requires
+
+pub returns-in_err-read-clause-done : goal.returns-in_err-read-clause-done
+returns-in_err-read-clause-done c =
+    let p = err_from_is_err_and c.from_residual.result c.from_residual.ensures.1 in
+    rw p.1 tt
+
+pub returns-clause-order : goal.returns-clause-order
+returns-clause-order c = c.settle.ensures.order
+
+pub returns-clause-done : goal.returns-clause-done
+returns-clause-done c = c.in_ok-settle.ensures.done
