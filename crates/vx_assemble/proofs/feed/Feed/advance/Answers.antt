@@ -33,7 +33,8 @@ pub returns-in-Some-clause-stopped : goal.returns-in-Some-clause-stopped
 returns-in-Some-clause-stopped g c first is =
     let same = c.loop-taken.invariant.stopped first is in
     let e = (c.in_ok-taken.ensures.stopped first (ap (λ (x : Feeding). x.first) same.0 ∙ is)).0 in
-    absurd (cc)
+    let no : ⊥ = cc in
+    (absurd no, absurd no, absurd no, absurd no)
 
 pub loop-taken-preserved : goal.loop-taken-preserved
 loop-taken-preserved g c =
