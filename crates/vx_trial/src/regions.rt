@@ -1,5 +1,5 @@
 //! Regions of a merge in memory, extracted.
-ghost use Rattle.std.specs.Prelude.{◌≡◌, ℕ, suc, List, None, map, IfOk, OnOk};
+ghost use Rattle.std.specs.Prelude.{◌≡◌, ℕ, suc, List, [], None, map, IfOk, OnOk};
 ghost use Rattle.vx_pic.specs.H266.{AreOfH266};
 ghost use Rattle.vx_pic.specs.Parts.{parts_of};
 ghost use Rattle.vx_pic.specs.Readings.{Picture as StreamPicture};
@@ -7,6 +7,7 @@ ghost use Rattle.vx_pic.specs.Rules.{Readers};
 ghost use Rattle.vx_pic.specs.Written.{Plan};
 ghost use Rattle.vx_extract.specs.Extracting.{SameTask, Stands};
 ghost use Rattle.vx_extract.specs.Written.{IsExtraction};
+ghost use Rattle.vx_trial.specs.inner.Feeds.{Waits};
 ghost use Rattle.vx_trial.specs.inner.Regions.{CanBeExtracted, HasExtracted, HasRegion, IsExtractedOn, MayExtract};
 
 use crate::feeds::next_picture;
@@ -29,10 +30,39 @@ pub(crate) fn extract(
         → IfOk result (λ region. IsExtraction k None (map parts_of ps) region.taken) }
 {
     let mut feed = MemoryFeed::new(alloc, merged)?;
+    extract_fed(alloc, k, &mut feed, pictures)
+}
+
+/// Region `k` of a stream of so many pictures, of which none was taken.
+fn extract_fed(
+    alloc: Global,
+    k: u32,
+    feed: &mut MemoryFeed,
+    pictures: u32,
+) -> Result<GrowSink, AllocError>
+    requires { (R : Readers) → AreOfH266 R → (bytes : List ℕ) × (ps : List StreamPicture) × CanBeExtracted R k pictures bytes ps × Waits R pictures feed.old ps }
+    ensures { (R : Readers) → AreOfH266 R → (bytes : List ℕ) (ps : List StreamPicture) → CanBeExtracted R k pictures bytes ps → Waits R pictures feed.old ps
+        → IfOk result (λ region. IsExtraction k None (map parts_of ps) region.taken) }
+{
     let mut extractor = Extractor::new(alloc, k, None);
+    extract_pictures(alloc, feed, &mut extractor, pictures)
+}
+
+/// The region of so many pictures.
+fn extract_pictures(
+    alloc: Global,
+    feed: &mut MemoryFeed,
+    extractor: &mut Extractor,
+    pictures: u32,
+) -> Result<GrowSink, AllocError>
+    requires { (R : Readers) → AreOfH266 R → (ps : List StreamPicture) × HasExtracted R pictures ps feed.old extractor.old [] }
+    ensures extracted { (R : Readers) → AreOfH266 R → (ps : List StreamPicture) → HasExtracted R pictures ps feed.old extractor.old []
+        → IfOk result (λ region. HasExtracted R 0 ps feed.new extractor.new region.taken) }
+    ensures task { SameTask extractor.old extractor.new }
+{
     let mut region = GrowSink::new(alloc);
     for _ in 0..pictures {
-        extract_next(&mut feed, &mut extractor, &mut region)?;
+        extract_next(feed, extractor, &mut region)?;
     }
     Ok(region)
 }
