@@ -14,7 +14,7 @@ ghost use Rattle.vx_run.specs.Conclusion.{IsOfCommand};
 ghost use Rattle.vx_run.specs.Extract.{ExtractsBy, ChecksBy, ok_text};
 ghost use Rattle.vx_bits.specs.declared.refusal.Refusal.TheVariants.{Extract};
 ghost use Rattle.vx_run.specs.ReadAgain.{IsReadAgain};
-ghost use Rattle.vx_run.specs.inner.Extracting.{ExtractsOne, ExtractsNext, ChecksOne, ChecksLatest, ChecksNext, CountsBy, HasChecked, HasExtracted, HasTaken, HaveSlices, IsTask, TakenIsReadAgain, task_of};
+ghost use Rattle.vx_run.specs.inner.Extracting.{ExtractsOne, ExtractsNext, ChecksOne, ChecksLatest, ChecksNext, CountsBy, HasChecked, HasExtracted, HasTaken, HaveSlices, IsTask, TakenIsReadAgain, task_held};
 ghost use Rattle.vx_run.specs.declared.extract.Task.{Task};
 ghost use Rattle.vx_run.specs.declared.stop.Place.TheVariants as places;
 ghost use Rattle.vx_run.specs.declared.stop.Stop.TheVariants as stops;
@@ -84,10 +84,10 @@ fn extract_pictures<K: Sink>(
     source: &mut Box<dyn Source>,
     out: &mut K,
 ) -> Result<(), Stop>
-    requires again { (R : Readers) → AreOfH266 R → TakenIsReadAgain R (task_of extractor.old) }
-    requires none { (R : Readers) → AreOfH266 R → HasExtracted R (task_of extractor.old) (change bytes_left read_faults source.old source.old)
+    requires again { (R : Readers) → AreOfH266 R → TakenIsReadAgain R (task_held extractor.old) }
+    requires none { (R : Readers) → AreOfH266 R → HasExtracted R (task_held extractor.old) (change bytes_left read_faults source.old source.old)
         (change K.bytes_taken K.write_faults out.old out.old) feed.old extractor.old 0 }
-    ensures extracts { (R : Readers) → AreOfH266 R → ExtractsBy R (task_of extractor.old) (change bytes_left read_faults source.old source.new)
+    ensures extracts { (R : Readers) → AreOfH266 R → ExtractsBy R (task_held extractor.old) (change bytes_left read_faults source.old source.new)
         (change K.bytes_taken K.write_faults out.old out.new) result }
     ensures stop { IfErr result IsOfCommand }
 {

@@ -58,8 +58,8 @@ pub record IsTask (t : Task) (x : Extracting) : Type 0 where
   pub tid : x.tid ≡ t.tid
 
 -- the task that an extractor has
-abbrev pub task_of : Extracting → Task
-task_of x = record { target = x.target; level = x.level; tid = x.tid }
+abbrev pub task_held : Extracting → Task
+task_held x = record { target = x.target; level = x.level; tid = x.tid }
 
 -- ---- one step
 
