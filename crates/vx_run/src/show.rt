@@ -158,9 +158,33 @@ fn gather_next(
     ensures falls { IfOk result (λ n. OnSome n (left_to_take feed.new < left_to_take feed.old)) }
     ensures stop { IfErr result IsOfCommand }
 {
-    let unit = feed.unit();
     let mut seen = StructureFields::new(alloc);
-    match take_next(feed, fields, &mut seen) {
+    gather_one(alloc, feed, fields, pictures, &mut seen, lines)
+}
+
+/// Puts the lines of the next unit behind others, with those of the fields that are seen of
+/// it. Answers how many pictures there are then, behind the first `pictures`, if there is a unit.
+fn gather_one(
+    alloc: Global,
+    feed: &mut Feed,
+    fields: bool,
+    pictures: u64,
+    seen: &mut StructureFields,
+    lines: &mut Vec<u8>,
+) -> Result<Option<u64>, Stop>
+    requires { seen.old ≡ no_fields }
+    ensures answer { (R : Readers) (h : AreOfH266 R) (g : List ℕ) (units : List UnitPlace) (before : List Reading)
+        → HasFed R feed.old g units before → pictures ≡ length (pictures_in before)
+        → GathersNext R (teller fields R h) g units before feed.new lines.old.items lines.new.items result }
+    ensures taken { feed.new.reader.taken ≡ feed.old.reader.taken }
+    ensures closed { feed.new.reader.closed ≡ feed.old.reader.closed }
+    ensures all { is_all feed.new.reader.splitter ≡ is_all feed.old.reader.splitter }
+    ensures sought { result ≡ Ok None → IsOpen feed.new → IsSought feed.new.reader.splitter }
+    ensures falls { IfOk result (λ n. OnSome n (left_to_take feed.new < left_to_take feed.old)) }
+    ensures stop { IfErr result IsOfCommand }
+{
+    let unit = feed.unit();
+    match take_next(feed, fields, seen) {
         Ok(
             Some(
                 Taken::Nal {
@@ -172,14 +196,14 @@ fn gather_next(
             ),
         ) => {
             let mut made = lines_of(alloc, feed, header, offset, bytes, what, pictures)?;
-            fields_line(&mut made, unit, &seen, None)?;
+            fields_line(&mut made, unit, seen, None)?;
             lines.extend_from_slice(&made)?;
             Ok(Some(count_with(what, pictures, feed.unit())))
         }
         Ok(Some(Taken::End)) => Ok(None),
         Ok(None) => Ok(None),
         Err(FeedFault::Refused(refusal)) => {
-            tell_refused(alloc, unit, &seen, refusal, lines)?;
+            tell_refused(alloc, unit, seen, refusal, lines)?;
             Err(Stop::Refused {
                 refusal,
                 place: Place::Unit { source: 0, unit },
