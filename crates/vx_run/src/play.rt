@@ -15,6 +15,7 @@ ghost use Rattle.vx_run.specs.Grammar.{Placing as PlacingAsked, play as for_play
 ghost use Rattle.vx_run.specs.Merge.{corners_of as corners_by};
 ghost use Rattle.vx_run.specs.Play.{Plays, PlayedIsReadAgain, file_regions, most_files, region_corners, region_at_corner, with_corner, with_corners, too_many_files as too_many_of_files};
 ghost use Rattle.vx_run.specs.Rounds.{most_sources};
+ghost use Rattle.vx_run.specs.inner.Advancing.{IsUnfed};
 ghost use Rattle.vx_run.specs.inner.Placings.{spelled};
 ghost use Rattle.vx_run.specs.inner.Playing.{AdvancesEach, AdvancesRegions, AreFew, ArePlaced, GoesOn, HasFound, IsAt, PlaysRound, PlaysRounds, SameBut, SameFiles, WritesRound};
 
@@ -24,6 +25,7 @@ use crate::rounds::{MOST_SOURCES, advance, feeds_for, going, one_more, too_many}
 use crate::stop::{Place, Stop};
 use crate::words::{Command, command_of};
 use std::alloc::{AllocError, Global};
+use std::mem::replace;
 use vx_again::{merge_is_read_again, pictures_can_be_merged, played_can_be_merged};
 use vx_annexb::units_can_stand;
 use vx_assemble::Feed;
@@ -284,9 +286,18 @@ fn advance_region(
             return Ok(true);
         }
         schedule.ended(k);
-        *feed = Feed::new(alloc)?;
+        renew(alloc, feed)?;
     }
     Ok(false)
+}
+
+/// Makes a feed one that has read nothing, for the next file.
+fn renew(alloc: Global, feed: &mut Feed) -> Result<(), AllocError>
+    ensures { OnOk result (IsUnfed feed.new) }
+{
+    let fresh = Feed::new(alloc)?;
+    drop(replace(feed, fresh));
+    Ok(())
 }
 
 /// Writes the round of the pictures that the feeds lend, behind so many rounds, to which it may be joined.

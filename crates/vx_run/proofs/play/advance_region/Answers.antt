@@ -3,7 +3,6 @@ use Rattle.std.proofs.lemmas.Option.{slice_get_within}
 use Rattle.std.proofs.lemmas.Result.{err_from_is_err_and}
 use Rattle.vx_play.specs.Scheduled.{files_of_region}
 use Rattle.vx_run.specs.declared.stop.Stop.{Stop}
-use Rattle.vx_run.specs.inner.Advancing.{IsUnfed}
 use Rattle.vx_run.proofs.RegionAdvances.{current_here, current_within, gone_more, one_gone, region_next, region_read, region_stops, region_takes, rest_stays}
 use Rattle.vx_run.proofs.RegionSteps.{on_ends}
 use Rattle.vx_run.proofs.play.advance_region.Goals as goal
@@ -59,9 +58,9 @@ returns-then-branch-clause-rest g c =
     λ j other. rest_stays s s' c.args.k file c.loop-file.invariant.1 is c.loop-file.sources.items c.advance.new.source j other ∙ c.loop-file.invariant.2 j other
 
 -- it has ended, and there was no memory for the next one
-pub returns-in_err-feed-clause-answer : goal.returns-in_err-feed-clause-answer
-returns-in_err-feed-clause-answer g c R of first passed own at few place =
-    let p = err_from_is_err_and c.from_residual-in_err-feed.result c.from_residual-in_err-feed.ensures.1 in
+pub returns-in_err-renew-clause-answer : goal.returns-in_err-renew-clause-answer
+returns-in_err-renew-clause-answer g c R of first passed own at few place =
+    let p = err_from_is_err_and c.from_residual-in_err-renew.result c.from_residual-in_err-renew.ensures.1 in
     let s = c.args.schedule.now in
     let s' = c.loop-file.schedule in
     let file = c.in-Some.file in
@@ -70,39 +69,13 @@ returns-in_err-feed-clause-answer g c R of first passed own at few place =
     let on = c.loop-file.invariant.3 R of first passed own at few place in
     rw (p.1, p.2) (region_read s s' c.args.k file c.loop-file.invariant.1 is _ _ R first c.loop-file.sources.items c.index_mut.result.now c.advance.new.source within c.index_mut.ensures.value c.loop-file.feed c.advance.new.feed c.advance.ensures.end passed own on (λ b units readings fed needed. rw c.if-branch.false at c.in_ok-advance.ensures.answer R of b units readings fed needed))
 
-pub returns-in_err-feed-clause-rest : goal.returns-in_err-feed-clause-rest
-returns-in_err-feed-clause-rest g c =
+pub returns-in_err-renew-clause-rest : goal.returns-in_err-renew-clause-rest
+returns-in_err-renew-clause-rest g c =
     let s = c.args.schedule.now in
     let s' = c.loop-file.schedule in
     let file = c.in-Some.file in
     let is : slice_get (files_of_region s'.regions c.args.k) (slice_index s'.gone c.args.k) ≡ Some file = sym c.current.ensures ∙ c.in-Some.is in
     λ j other. rest_stays s s' c.args.k file c.loop-file.invariant.1 is c.loop-file.sources.items c.advance.new.source j other ∙ c.loop-file.invariant.2 j other
-
-pub loop-file-smaller-in_ok-feed : goal.loop-file-smaller-in_ok-feed
-loop-file-smaller-in_ok-feed g c =
-    let s = c.args.schedule.now in
-    let s' = c.loop-file.schedule in
-    let file = c.in-Some.file in
-    let is : slice_get (files_of_region s'.regions c.args.k) (slice_index s'.gone c.args.k) ≡ Some file = sym c.current.ensures ∙ c.in-Some.is in
-    let more = gone_more s s' c.ended.new.self c.args.k c.loop-file.invariant.1 c.ended.ensures c.requires.region in
-    omega (arith, more, slice_get_within (files_of_region s.regions c.args.k) (slice_index s'.gone c.args.k) file (current_here s s' c.args.k file c.loop-file.invariant.1 is))
-
-pub loop-file-preserved-in_ok-feed : goal.loop-file-preserved-in_ok-feed
-loop-file-preserved-in_ok-feed g c =
-    let s = c.args.schedule.now in
-    let s' = c.loop-file.schedule in
-    let file = c.in-Some.file in
-    let is : slice_get (files_of_region s'.regions c.args.k) (slice_index s'.gone c.args.k) ≡ Some file = sym c.current.ensures ∙ c.in-Some.is in
-    let within : file < length c.loop-file.sources.items = omega (arith, current_within s s' c.args.k file c.loop-file.invariant.1 is, c.requires.files, c.loop-file.invariant.0) in (
-      omega (arith, c.loop-file.invariant.0),
-      one_gone s s' c.ended.new.self c.args.k c.loop-file.invariant.1 c.ended.ensures,
-      λ j other. rest_stays s s' c.args.k file c.loop-file.invariant.1 is c.loop-file.sources.items c.advance.new.source j other ∙ c.loop-file.invariant.2 j other,
-      λ R of first passed own at few place.
-          let on = c.loop-file.invariant.3 R of first passed own at few place in
-          let unfed : IsUnfed c.in_ok-feed.field-0 = record { fed = c.in_ok-feed.ensures.fed; needed = c.in_ok-feed.ensures.needed; open_ = c.in_ok-feed.ensures.open } in
-          region_next s s' c.args.k file c.loop-file.invariant.1 is _ _ R first c.loop-file.sources.items c.index_mut.result.now c.advance.new.source within c.index_mut.ensures.value c.loop-file.feed c.advance.new.feed c.advance.ensures.end passed own on c.in_ok-feed.field-0 unfed (slice_index c.ended.new.self.gone c.args.k)
-          (gone_more s s' c.ended.new.self c.args.k c.loop-file.invariant.1 c.ended.ensures c.requires.region) (λ b units readings fed needed. rw c.if-branch.false at c.in_ok-advance.ensures.answer R of b units readings fed needed),
-    )
 
 pub loop-file-smaller : goal.loop-file-smaller
 loop-file-smaller g c =
@@ -125,8 +98,7 @@ loop-file-preserved g c =
       λ j other. rest_stays s s' c.args.k file c.loop-file.invariant.1 is c.loop-file.sources.items c.advance.new.source j other ∙ c.loop-file.invariant.2 j other,
       λ R of first passed own at few place.
           let on = c.loop-file.invariant.3 R of first passed own at few place in
-          let unfed : IsUnfed c.in_ok-feed.field-0 = record { fed = c.in_ok-feed.ensures.fed; needed = c.in_ok-feed.ensures.needed; open_ = c.in_ok-feed.ensures.open } in
-          region_next s s' c.args.k file c.loop-file.invariant.1 is _ _ R first c.loop-file.sources.items c.index_mut.result.now c.advance.new.source within c.index_mut.ensures.value c.loop-file.feed c.advance.new.feed c.advance.ensures.end passed own on c.in_ok-feed.field-0 unfed (slice_index c.ended.new.self.gone c.args.k)
+          region_next s s' c.args.k file c.loop-file.invariant.1 is _ _ R first c.loop-file.sources.items c.index_mut.result.now c.advance.new.source within c.index_mut.ensures.value c.loop-file.feed c.advance.new.feed c.advance.ensures.end passed own on c.renew.new.feed c.in_ok-renew.ensures (slice_index c.ended.new.self.gone c.args.k)
           (gone_more s s' c.ended.new.self c.args.k c.loop-file.invariant.1 c.ended.ensures c.requires.region) (λ b units readings fed needed. rw c.if-branch.false at c.in_ok-advance.ensures.answer R of b units readings fed needed),
     )
 
