@@ -18,7 +18,7 @@ use Rattle.vx_verify.specs.Verifying.{Judges}
 use Rattle.vx_run.specs.declared.stop.Stop.{Stop}
 use Rattle.vx_run.specs.declared.stop.Stop.TheVariants.{NotUnderstood, Mismatched, Refused, ReadFault, WriteFault, NoMemory}
 use Rattle.vx_run.specs.Change.{Sources, change, sources_change, Gains, GainsFront}
-use Rattle.vx_run.specs.Conclusion.{Outcome}
+use Rattle.vx_run.specs.Conclusion.{IsOfCommand, Outcome}
 use Rattle.vx_run.specs.Rounds.{Stream, by_round, AreTold, OfEachSource, IsReadInRound, IsRound}
 use Rattle.vx_run.specs.Verify.{OfRound, AreVerified, length_differs, verify_telling, VerifiesBy, yes_text}
 use Rattle.vx_run.specs.inner.Advancing.{OfAll, Begin, IsUnfed, AllTake, AllEnd, so_far, EndsFirst, HaltsAtSource, HaltsByLength}
@@ -49,6 +49,17 @@ pub judged_in : (spots : List Spot) (feeds : List Feeding) (f : Feeding) (n : �
 judged_in spots feeds f n (errors.Refused m) at judged = (lent_round (λ q round. IsMismatch spots q round m) feeds f at judged, refl)
 judged_in spots feeds f n errors.Memory at judged = tt
 judged_in spots feeds f n (errors.Stopped first) at judged = absurd judged
+
+-- where it is
+pub verified_in : (spots : List Spot) (feeds : List Feeding) (f : Feeding) (n : ℕ) → slice_get feeds 0 ≡ Some f → Judges spots (lent_by f.assembler) (map (λ (g : Feeding). lent_by g.assembler) (drop 1 feeds)) (Ok tt)
+    → VerifiesRound spots (map (λ (g : Feeding). lent_by g.assembler) feeds) n (Ok tt)
+verified_in spots feeds f n at judged = lent_round (λ q round. IsVerified spots q round) feeds f at judged
+
+-- what stops it is no want of understanding
+pub is_of_command : (error : VerifyError) (n : ℕ) → IsOfCommand (stop_in error n)
+is_of_command (errors.Refused m) n = tt
+is_of_command errors.Memory n = tt
+is_of_command (errors.Stopped first) n = tt
 
 -- the same places and feeds
 pub judged_same : (own spots : List Spot) (fs feeds : List Feeding) (n : ℕ) (outcome : Outcome) → own ≡ spots → fs ≡ feeds → VerifiesRound own (map (λ (f : Feeding). lent_by f.assembler) fs) n outcome
