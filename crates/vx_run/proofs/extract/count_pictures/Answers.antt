@@ -1,4 +1,4 @@
-use Rattle.std.proofs.Common.{rules, ◌≡◌, refl, None, arith}
+use Rattle.std.proofs.Common.{◌≡◌, refl, None, arith}
 use Rattle.std.proofs.lemmas.Result.{err_from_is_err_and}
 use Rattle.vx_pic.proofs.Existing.{there_are_readers}
 use Rattle.vx_run.proofs.extract.count_pictures.Goals as goal
@@ -33,14 +33,14 @@ loop-stays-preserved g c =
 pub returns-in_err-some_picture-clause-counts : goal.returns-in_err-some_picture-clause-counts
 returns-in_err-some_picture-clause-counts g c R of =
     let p = err_from_is_err_and c.from_residual-in_err-some_picture.result c.from_residual-in_err-some_picture.ensures.1 in
-    let at_end : c.in_ok-stays.field-0 ≡ None = search rules in
+    let at_end : c.in_ok-stays.field-0 ≡ None = c.in_default.is in
     let end = rw at_end at c.in_ok-stays.ensures.answer c.loop-stays.invariant.1 R of c.args.task c.loop-stays.invariant.0 refl c.args.source.now c.loop-stays.kept (c.loop-stays.invariant.2 R of) in
     let none = c.in_err-some_picture.ensures.none in
     rw (p.1, p.2, none.1) (end.1 none.0)
 
 pub returns-clause-counts : goal.returns-clause-counts
 returns-clause-counts g c R of =
-    let at_end : c.in_ok-stays.field-0 ≡ None = search rules in
+    let at_end : c.in_ok-stays.field-0 ≡ None = c.in_default.is in
     let end = rw at_end at c.in_ok-stays.ensures.answer c.loop-stays.invariant.1 R of c.args.task c.loop-stays.invariant.0 refl c.args.source.now c.loop-stays.kept (c.loop-stays.invariant.2 R of) in
     end.0 c.in_ok-some_picture.ensures.some
 

@@ -1,4 +1,4 @@
-use Rattle.std.proofs.Common.{rules, ◌≡◌, refl, ◌∙◌, None}
+use Rattle.std.proofs.Common.{◌≡◌, refl, ◌∙◌, None}
 use Rattle.std.proofs.lemmas.Result.{err_from_is_err_and}
 use Rattle.vx_run.specs.Show.{teller}
 use Rattle.vx_run.proofs.Gathering.{HasGathered-none, HasGathered-more, Gathers-all, Gathers-stopped}
@@ -25,6 +25,6 @@ loop-next-preserved c = (
 
 pub returns-clause-answer : goal.returns-clause-answer
 returns-clause-answer c R of g units before fed count =
-    let none : c.in_ok-next.field-0 ≡ None = search rules in
+    let none : c.in_ok-next.field-0 ≡ None = c.in_default.is in
     Gathers-all R (teller c.args.fields R of) g units before c.loop-next.feed c.gather_next.new.feed _ _ _ c.loop-next.count (c.loop-next.invariant.3 R of g units before fed count)
     (λ us b f k. rw none at c.in_ok-next.ensures.answer R of g us b f k)

@@ -1,4 +1,4 @@
-use Rattle.std.proofs.Common.{rules, ◌≡◌, ◌∙◌, ℕ, List, ◌∷◌, ap, codes, sym}
+use Rattle.std.proofs.Common.{◌≡◌, ◌∙◌, ℕ, List, ◌∷◌, ap, codes, sym}
 use Rattle.vx_run.specs.Grammar.{Placing, verify, AskFor, texts}
 use Rattle.vx_run.proofs.Numbering.{if_none}
 use Rattle.vx_run.proofs.PlacingWords.{asks_to_verify, verify_not_merge, verify_not_file, verify_not_placed, some_texts, words_of_parts}
@@ -12,14 +12,14 @@ returns-in_err-rest-clause-none c =
 
 pub returns-in_err-finished-clause-none : goal.returns-in_err-finished-clause-none
 returns-in_err-finished-clause-none c =
-    let first : texts c.args.words.now ≡ codes "merge" ∷ texts c.in_ok-rest.rest.now = search rules in
+    let first : texts c.args.words.now ≡ codes "merge" ∷ texts c.in_ok-rest.rest.now = rw c.in_ok-rest.was at c.behind.ensures in
     let none = rw c.in_err-finished.was at c.file_first.ensures in
     let none_ : (finished : List ℕ) (ps : List Placing) → AskFor (codes "verify" ∷ texts c.args.words.now) (verify finished ps) → ⊥ = λ finished ps asks. verify_not_file (texts c.args.words.now) finished ps asks (texts c.in_ok-rest.rest.now) first none in
     if_none _ _ none_
 
 pub returns-in_err-placings-clause-none : goal.returns-in_err-placings-clause-none
 returns-in_err-placings-clause-none c =
-    let first : texts c.args.words.now ≡ codes "merge" ∷ texts c.in_ok-rest.rest.now = search rules in
+    let first : texts c.args.words.now ≡ codes "merge" ∷ texts c.in_ok-rest.rest.now = rw c.in_ok-rest.was at c.behind.ensures in
     let second = rw c.in_ok-finished.was at c.file_first.ensures in
     let none = rw c.in_err-placings.was at c.of.ensures in
     let none_ : (finished : List ℕ) (ps : List Placing) → AskFor (codes "verify" ∷ texts c.args.words.now) (verify finished ps) → ⊥ = λ finished ps asks.
@@ -29,7 +29,7 @@ returns-in_err-placings-clause-none c =
 
 pub returns-clause-some : goal.returns-clause-some
 returns-clause-some c =
-    let first : texts c.args.words.now ≡ codes "merge" ∷ texts c.in_ok-rest.rest.now = search rules in
+    let first : texts c.args.words.now ≡ codes "merge" ∷ texts c.in_ok-rest.rest.now = rw c.in_ok-rest.was at c.behind.ensures in
     let second = rw c.in_ok-finished.was at c.file_first.ensures in
     let same = rw c.in_ok-placings.was at c.of.ensures in
     let p = c.in_ok-placings.placings in
