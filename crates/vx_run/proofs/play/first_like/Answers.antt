@@ -1,4 +1,4 @@
-use Rattle.std.proofs.Common.{◌≡◌, ◌<◌, ◌∙◌, Some, true, false, length, slice_get, sym, ap, arith}
+use Rattle.std.proofs.Common.{◌≡◌, ◌∙◌, Some, true, false, slice_get, sym, ap, arith}
 use Rattle.vx_run.specs.Merge.{corner_of, corners_of}
 use Rattle.vx_run.specs.Play.{is_corner}
 use Rattle.vx_run.specs.inner.Placings.{placed, spelled}

@@ -1,4 +1,4 @@
-use Rattle.std.proofs.Common.{◌≡◌, ◌∙◌, ℕ, List, ◌∷◌, ap, codes, map, subst, sym}
+use Rattle.std.proofs.Common.{List, ◌∷◌, codes, map, subst}
 use Rattle.vx_run.specs.Grammar.{Placing, check_merge, AskFor, texts}
 use Rattle.vx_run.specs.inner.Placings.{placing_in}
 use Rattle.vx_run.proofs.Numbering.{if_none}

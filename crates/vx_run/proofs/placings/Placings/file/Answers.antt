@@ -1,8 +1,6 @@
-use Rattle.std.proofs.Common.{ℕ, List, ◌≤◌, ◌∙◌, length, map, sym, arith}
-use Rattle.std.proofs.lemmas.Option.{slice_get_past}
+use Rattle.std.proofs.Common.{sym}
 use Rattle.vx_run.specs.Grammar.{Placing}
 use Rattle.vx_run.specs.inner.Placings.{spelled, placed}
-use Rattle.vx_run.proofs.Corners.{many_placed}
 use Rattle.vx_run.proofs.PlacingWords.{made_at}
 use Rattle.vx_run.proofs.placings.Placings.file.Goals as goal
 
