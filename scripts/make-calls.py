@@ -9,7 +9,7 @@ fit_cases.py, a program of the definitions by sets. The files of crates/vx_calls
 """
 import os
 
-from bit_calls import Calls, listed, spelled, told
+from bit_calls import Calls, joined, listed, spelled, told
 from fit_cases import asked_and_answered
 from memory_calls import add_memory
 from rbsp_calls import add_rbsps
@@ -108,6 +108,9 @@ LISTS = [
     (f"bytes {spelled((bytes([0xC4]), 2 ** 23))} {0xC4}", f"{told(bytes([0xC4]) * (2 ** 23 + 1))} of 1"),
 ]
 
+# Sizes of RBSPs, and whether a copy is kept.
+SHORT_RBSPS = [(0, True), (1, True), (1_024, True), (1_025, False), (2 ** 23, False)]
+
 TEXTS = [
     ("read-memory", "out of memory, memory: true"),
     ("read-refused", "refused, memory: false"),
@@ -121,6 +124,9 @@ def add_lists(calls):
     calls.about("lists, at the sizes that they have in use")
     for line, answer in LISTS:
         calls.call(line, answer)
+    for size, kept in SHORT_RBSPS:
+        rbsp = bytes([0xC4]), size
+        calls.call(f"short {spelled(rbsp)}", f"{told(joined(rbsp))} true" if kept else "none false")
     calls.about("what errors say of themselves")
     for word, answer in TEXTS:
         calls.call(f"text {word}", answer)

@@ -14,27 +14,26 @@ pub(crate) const MOST_READ: usize = 1 << 23;
 ///   an aligned writer.
 /// - `codes N` writes the numbers below N, each as ue(v) and as u(32), reads them again, and tells of the bytes, how many numbers are
 ///   the same, and what stands behind.
-pub(crate) fn answer(alloc: Global, verb: &str, words: &[&str]) -> Result<String> {
+pub(crate) fn answer(text: &mut String, alloc: Global, verb: &str, words: &[&str]) -> Result<()> {
     match (verb, words) {
-        ("bits", [bytes, calls @ ..]) => read_calls(alloc, bytes, calls),
-        ("code", [calls @ .., end]) => write_calls(alloc, calls, end),
-        ("codes", [count]) => there_and_back(alloc, count.parse::<u32>()?),
+        ("bits", [bytes, calls @ ..]) => read_calls(text, alloc, bytes, calls),
+        ("code", [calls @ .., end]) => write_calls(text, alloc, calls, end),
+        ("codes", [count]) => there_and_back(text, alloc, count.parse::<u32>()?),
         _ => bail!("no such call of bits"),
     }
 }
 
-/// What calls of a reader of bytes answer.
-fn read_calls(alloc: Global, bytes: &str, calls: &[&str]) -> Result<String> {
+/// Tells what calls of a reader of bytes answer.
+fn read_calls(text: &mut String, alloc: Global, bytes: &str, calls: &[&str]) -> Result<()> {
     let bytes = bytes_of(alloc, bytes)?;
     if bytes.len() > MOST_READ {
         bail!("too many bytes");
     }
     let mut bits = BitReader::new(&bytes);
-    let mut text = String::new(alloc);
     for call in calls {
-        read_call(&mut text, &mut bits, call)?;
+        read_call(text, &mut bits, call)?;
     }
-    Ok(text)
+    Ok(())
 }
 
 /// Makes one call, maybe of a fork, and tells of it.
@@ -61,11 +60,16 @@ fn take(bits: &mut BitReader<'_>, call: &str) -> Result<Result<i64, BitCause>> {
     match call {
         "ue" => Ok(bits.ue().map(i64::from)),
         "se" => Ok(bits.se().map(i64::from)),
-        "align" => Ok(bits.align().map(|()| 0)),
-        "one" => Ok(bits.align_after_one().map(|()| 0)),
-        "trailing" => Ok(bits.trailing().map(|()| 0)),
+        "align" => Ok(without_number(bits.align())),
+        "one" => Ok(without_number(bits.align_after_one())),
+        "trailing" => Ok(without_number(bits.trailing())),
         _ => take_fixed(bits, width_of(call)?),
     }
+}
+
+/// What a call answers that gives no number.
+fn without_number(answer: Result<(), BitCause>) -> Result<i64, BitCause> {
+    answer.map(|()| 0)
 }
 
 /// What `u` answers.
@@ -85,16 +89,20 @@ fn width_of(call: &str) -> Result<u32> {
     Ok(width.parse::<u32>()?)
 }
 
-/// The bytes that calls of a writer write.
-fn write_calls(alloc: Global, calls: &[&str], end: &str) -> Result<String> {
+/// Tells the bytes that calls of a writer write.
+fn write_calls(text: &mut String, alloc: Global, calls: &[&str], end: &str) -> Result<()> {
     let mut bits = BitWriter::new(alloc);
-    for call in calls {
-        write_call(&mut bits, call)?;
-    }
+    write_each(&mut bits, calls)?;
     let bytes = end_bits(bits, end)?;
-    let mut text = String::new(alloc);
-    push_bytes(&mut text, &bytes)?;
-    Ok(text)
+    Ok(push_bytes(text, &bytes)?)
+}
+
+/// Makes calls of a writer.
+fn write_each(bits: &mut BitWriter, calls: &[&str]) -> Result<()> {
+    for call in calls {
+        write_call(bits, call)?;
+    }
+    Ok(())
 }
 
 /// The bytes of a writer.
@@ -145,18 +153,16 @@ fn write_alignment(bits: &mut BitWriter, call: &str) -> Result<()> {
     }
 }
 
-/// What is written of the numbers below this one, and how it is read again.
-fn there_and_back(alloc: Global, count: u32) -> Result<String> {
+/// Tells what is written of the numbers below this one, and how it is read again.
+fn there_and_back(text: &mut String, alloc: Global, count: u32) -> Result<()> {
     let bytes = long_bits(alloc, count)?;
     if bytes.len() > MOST_READ {
         bail!("too many numbers");
     }
-    let mut text = String::new(alloc);
-    push_bytes(&mut text, &bytes)?;
+    push_bytes(text, &bytes)?;
     let mut bits = BitReader::new(&bytes);
     write!(text, " {}", same_numbers(&mut bits, count))?;
-    tell_call(&mut text, &mut bits, "trailing")?;
-    Ok(text)
+    tell_call(text, &mut bits, "trailing")
 }
 
 /// The codes of the numbers below this one.

@@ -5,11 +5,11 @@ ghost use Rattle.std.specs.List.{AllZip};
 ghost use Rattle.vx_fit.specs.Placing.{IsInRange, in_ctus};
 ghost use Rattle.vx_fit.specs.Sources.{IsSized};
 
-use crate::layout::{bounds_of, push_bounds, rect_of};
+use crate::layout::{bounds_within, empty_picture, push_bounds, rect_of};
 use anyhow::{Context, Result, bail};
 use std::alloc::{AllocError, Global};
 use vx_fit::{FitFault, LineError, Placed, fit_lines, fit_regions};
-use vx_layout::{Bounds, Numbers, Rect, RectList};
+use vx_layout::{Bounds, Numbers, Rect};
 
 /// The CTU size of regions that are given in CTUs.
 const CTB: u32 = 32;
@@ -17,23 +17,23 @@ const CTB: u32 = 32;
 /// - `fit CTB RECT ..` tells the size of the frame of regions in luma samples, or why they don't fit.
 /// - `lines RECT:COLUMNS:ROWS ..` tells the tile lines of the frame of regions in CTUs, with the explicit sizes of their tile columns and
 ///   tile rows, or the region that doesn't keep its own.
-pub(crate) fn answer(alloc: Global, verb: &str, words: &[&str]) -> Result<String> {
+pub(crate) fn answer(text: &mut String, alloc: Global, verb: &str, words: &[&str]) -> Result<()> {
     match (verb, words) {
-        ("fit", [ctb, regions @ ..]) => fit_text(alloc, ctb.parse::<u32>()?, regions),
-        ("lines", regions) => lines_text(alloc, regions),
+        ("fit", [ctb, regions @ ..]) => tell_fit(text, alloc, ctb.parse::<u32>()?, regions),
+        ("lines", regions) => tell_lines(text, alloc, regions),
         _ => bail!("no such call of regions"),
     }
 }
 
 /// Tells whether regions fit.
-fn fit_text(alloc: Global, ctb: u32, regions: &[&str]) -> Result<String> {
+fn tell_fit(text: &mut String, alloc: Global, ctb: u32, regions: &[&str]) -> Result<()> {
     let mut placed = Vec::new(alloc);
     for word in regions {
         let Rect { x, y, w, h } = rect_of(alloc, word)?;
         placed.push(Placed { x, y, w, h })?;
     }
     let answer = fit(&placed, ctb)?;
-    Ok(format!(in alloc; "{answer:?}")?)
+    Ok(write!(text, "{answer:?}")?)
 }
 
 /// Whether regions fit.
@@ -138,31 +138,33 @@ fn part_of(alloc: Global, word: &str) -> Result<(Placed, Numbers)> {
         w: w.saturating_mul(CTB),
         h: h.saturating_mul(CTB),
     };
-    let picture = Numbers {
-        columns: bounds_of(alloc, format!(in alloc; "{columns}/{w}")?.as_str())?,
-        rows: bounds_of(alloc, format!(in alloc; "{rows}/{h}")?.as_str())?,
-        slices: RectList::new(alloc),
-        subpics: RectList::new(alloc),
-    };
-    Ok((placed, picture))
+    let columns = bounds_within(alloc, columns, w)?;
+    let rows = bounds_within(alloc, rows, h)?;
+    Ok((placed, empty_picture(alloc, columns, rows)))
 }
 
 /// Tells of the lines of regions.
-fn lines_text(alloc: Global, regions: &[&str]) -> Result<String> {
+fn tell_lines(text: &mut String, alloc: Global, regions: &[&str]) -> Result<()> {
     let (mut placed, mut parts) = (Vec::new(alloc), Vec::new(alloc));
     for word in regions {
         let (region, picture) = part_of(alloc, word)?;
         placed.push(region)?;
         parts.push(picture).map_err(AllocError::from)?;
     }
-    let mut text = String::new(alloc);
-    match lines(alloc, &placed, &parts)? {
+    Ok(push_lines(text, &lines(alloc, &placed, &parts)?)?)
+}
+
+/// Appends tile lines, or why there are none.
+fn push_lines(
+    text: &mut String,
+    lines: &Result<(Bounds, Bounds), LineError>,
+) -> Result<(), AllocError> {
+    match lines {
         Ok((columns, rows)) => {
-            push_bounds(&mut text, &columns)?;
+            push_bounds(text, columns)?;
             text.push_str(" ")?;
-            push_bounds(&mut text, &rows)?;
+            push_bounds(text, rows)
         }
-        Err(error) => write!(text, "{error:?}")?,
+        Err(error) => write!(text, "{error:?}"),
     }
-    Ok(text)
 }

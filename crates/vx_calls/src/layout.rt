@@ -1,5 +1,5 @@
 //! Tiles, slices and subpictures of a picture.
-ghost use Rattle.std.specs.Prelude.{◌≤◌, ◌<◌, ◌≡◌, length};
+ghost use Rattle.std.specs.Prelude.{◌≤◌, ◌<◌, ◌≡◌, length, IfOk};
 ghost use Rattle.std.specs.Bool.{OnTrue};
 ghost use Rattle.vx_layout.specs.Faults.{IsInLimits};
 ghost use Rattle.vx_layout.specs.Layouts.{slices_in};
@@ -15,31 +15,27 @@ use vx_layout::{Bounds, Layout, LayoutError, Numbers, Rect, RectList, TileError,
 /// - `layout COLUMNS ROWS SLICES SUBPICTURES` tells the fault of numbers, or of each subpicture its slices, each with its entry points
 ///   without and with synchronization, and the subpicture as a picture of its own. COLUMNS and ROWS are SIZES/TOTAL, and SLICES and
 ///   SUBPICTURES are rectangles with `;` between them. `RECT*N*M` are M rectangles like this one in rows of N side by side.
-pub(crate) fn answer(alloc: Global, verb: &str, words: &[&str]) -> Result<String> {
+pub(crate) fn answer(text: &mut String, alloc: Global, verb: &str, words: &[&str]) -> Result<()> {
     match (verb, words) {
-        ("bounds", [sizes]) => bounds_text(alloc, tiles(alloc, sizes)?),
-        ("has", [sizes, numbers @ ..]) => has_text(alloc, &bounds_of(alloc, sizes)?, numbers),
-        ("precedes", [one, other]) => {
-            let (one, other) = (rect_of(alloc, one)?, rect_of(alloc, other)?);
-            Ok(format!(in alloc; "{}", one.precedes(&other))?)
-        }
+        ("bounds", [sizes]) => tell_tiles(text, alloc, sizes),
+        ("has", [sizes, numbers @ ..]) => tell_has(text, alloc, sizes, numbers),
+        ("precedes", [one, other]) => tell_precedes(text, alloc, one, other),
         ("layout", [columns, rows, slices, subpics]) => {
-            let numbers = Numbers {
-                columns: bounds_of(alloc, columns)?,
-                rows: bounds_of(alloc, rows)?,
-                slices: rects_of(alloc, slices)?,
-                subpics: rects_of(alloc, subpics)?,
-            };
-            answer_layout(alloc, numbers)
+            tell_picture(text, alloc, columns, rows, slices, subpics)
         }
         _ => bail!("no such call of layouts"),
     }
 }
 
 /// What explicit sizes and a total, `SIZES/TOTAL`, come to.
-pub(crate) fn tiles(alloc: Global, word: &str) -> Result<Result<Bounds, TileError>> {
+fn tiles(alloc: Global, word: &str) -> Result<Result<Bounds, TileError>> {
     let (sizes, total) = word.split_once('/').context("no total")?;
-    let (sizes, total) = (numbers_of(alloc, sizes)?, total.parse::<u32>()?);
+    tiles_within(alloc, sizes, total.parse::<u32>()?)
+}
+
+/// What explicit sizes come to within a total.
+fn tiles_within(alloc: Global, sizes: &str, total: u32) -> Result<Result<Bounds, TileError>> {
+    let sizes = numbers_of(alloc, sizes)?;
     if sizes.is_empty() || total < 1 {
         bail!("no sizes");
     }
@@ -49,34 +45,48 @@ pub(crate) fn tiles(alloc: Global, word: &str) -> Result<Result<Bounds, TileErro
     Ok(tile_bounds(alloc, &sizes, total))
 }
 
-/// The bounds of explicit sizes and a total.
-pub(crate) fn bounds_of(alloc: Global, word: &str) -> Result<Bounds> {
+/// The bounds of explicit sizes and a total, `SIZES/TOTAL`.
+fn bounds_of(alloc: Global, word: &str) -> Result<Bounds> {
     Ok(tiles(alloc, word)??)
 }
 
-/// Tells of bounds.
-fn bounds_text(alloc: Global, bounds: Result<Bounds, TileError>) -> Result<String> {
-    let mut text = String::new(alloc);
-    match bounds {
-        Ok(bounds) => push_bounds(&mut text, &bounds)?,
-        Err(error) => write!(text, "{error:?}")?,
-    }
-    Ok(text)
+/// The bounds of explicit sizes within a total.
+pub(crate) fn bounds_within(alloc: Global, sizes: &str, total: u32) -> Result<Bounds> {
+    Ok(tiles_within(alloc, sizes, total)??)
 }
 
-/// Tells of numbers whether they are bounds.
-fn has_text(alloc: Global, bounds: &Bounds, numbers: &[&str]) -> Result<String> {
-    let mut text = String::new(alloc);
+/// Tells the bounds of sizes, or why there are none.
+fn tell_tiles(text: &mut String, alloc: Global, sizes: &str) -> Result<()> {
+    match tiles(alloc, sizes)? {
+        Ok(bounds) => Ok(push_bounds(text, &bounds)?),
+        Err(error) => Ok(write!(text, "{error:?}")?),
+    }
+}
+
+/// Tells of numbers whether they are bounds of sizes.
+fn tell_has(text: &mut String, alloc: Global, sizes: &str, numbers: &[&str]) -> Result<()> {
+    let bounds = bounds_of(alloc, sizes)?;
+    push_has(text, &bounds, numbers)
+}
+
+/// Appends of numbers whether they are bounds.
+fn push_has(text: &mut String, bounds: &Bounds, numbers: &[&str]) -> Result<()> {
     for number in numbers {
-        push_gap(&mut text)?;
+        push_gap(text)?;
         write!(text, "{}", bounds.has(number.parse::<u32>()?))?;
     }
-    Ok(text)
+    Ok(())
+}
+
+/// Tells whether a rectangle precedes another.
+fn tell_precedes(text: &mut String, alloc: Global, one: &str, other: &str) -> Result<()> {
+    let (one, other) = (rect_of(alloc, one)?, rect_of(alloc, other)?);
+    Ok(write!(text, "{}", one.precedes(&other))?)
 }
 
 /// The rectangle of its four numbers.
 pub(crate) fn rect_of(alloc: Global, word: &str) -> Result<Rect> {
-    match numbers_of(alloc, word)?.as_slice() {
+    match numbers_of::<u32>(alloc, word)?.as_slice() {
         [x, y, w, h] => Ok(Rect {
             x: *x,
             y: *y,
@@ -87,21 +97,20 @@ pub(crate) fn rect_of(alloc: Global, word: &str) -> Result<Rect> {
     }
 }
 
-/// Rectangles with `;` between them.
-fn rects_of(alloc: Global, word: &str) -> Result<RectList> {
-    let mut rects = RectList::new(alloc);
-    for part in word.split(';') {
-        let (rect, counts) = part.split_once('*').unwrap_or((part, "1*1"));
-        let (across, count) = counts.split_once('*').context("no count")?;
-        let rect = rect_of(alloc, rect)?;
-        repeat(
-            &mut rects,
-            rect,
-            across.parse::<u32>()?,
-            count.parse::<u32>()?,
-        )?;
+/// Appends the rectangles of words with `;` between them.
+fn push_rects_of(rects: &mut RectList, alloc: Global, words: &str) -> Result<()> {
+    for word in words.split(';') {
+        push_rects_of_word(rects, alloc, word)?;
     }
-    Ok(rects)
+    Ok(())
+}
+
+/// Appends the rectangles of one word.
+fn push_rects_of_word(rects: &mut RectList, alloc: Global, word: &str) -> Result<()> {
+    let (rect, counts) = word.split_once('*').unwrap_or((word, "1*1"));
+    let (across, count) = counts.split_once('*').context("no count")?;
+    let rect = rect_of(alloc, rect)?;
+    Ok(repeat(rects, rect, across.parse::<u32>()?, count.parse::<u32>()?)?)
 }
 
 /// Appends rectangles like this one, from it on, so many side by side.
@@ -137,30 +146,88 @@ fn is_some_and_few(rects: &RectList) -> bool
     1 <= rects.len() && rects.len() <= 1000
 }
 
-/// Tells of numbers.
-fn answer_layout(alloc: Global, numbers: Numbers) -> Result<String> {
+/// Tells of the picture of these tile columns and tile rows, slices and subpictures.
+fn tell_picture(
+    text: &mut String,
+    alloc: Global,
+    columns: &str,
+    rows: &str,
+    slices: &str,
+    subpics: &str,
+) -> Result<()> {
+    let mut picture = empty_picture(alloc, bounds_of(alloc, columns)?, bounds_of(alloc, rows)?);
+    push_both(&mut picture, alloc, slices, subpics)?;
+    answer_layout(text, alloc, picture)
+}
+
+/// A picture of these tile columns and tile rows without slices.
+pub(crate) fn empty_picture(alloc: Global, columns: Bounds, rows: Bounds) -> Numbers {
+    Numbers {
+        columns,
+        rows,
+        slices: RectList::new(alloc),
+        subpics: RectList::new(alloc),
+    }
+}
+
+/// Appends slices and subpictures to a picture.
+fn push_both(picture: &mut Numbers, alloc: Global, slices: &str, subpics: &str) -> Result<()> {
+    push_rects_of(&mut picture.slices, alloc, slices)?;
+    push_rects_of(&mut picture.subpics, alloc, subpics)
+}
+
+/// Tells of the numbers of a picture.
+fn answer_layout(text: &mut String, alloc: Global, numbers: Numbers) -> Result<()> {
     if !is_in_limits(&numbers) {
         bail!("outside the limits of a picture");
     }
     let count = numbers.subpics.len() as u32;
-    match Layout::new(alloc, numbers) {
-        Ok(layout) => Ok(layout_text(alloc, &layout, count)?),
-        Err(LayoutError::Fault(fault)) => Ok(format!(in alloc; "fault {fault}")?),
+    tell_layout(text, alloc, &Layout::new(alloc, numbers), count)
+}
+
+/// Tells of a layout, or why there is none.
+fn tell_layout(
+    text: &mut String,
+    alloc: Global,
+    layout: &Result<Layout, LayoutError>,
+    count: u32,
+) -> Result<()>
+    requires { IfOk layout.now (λ layout. length layout.subpics ≡ count) }
+{
+    match layout {
+        Ok(layout) => Ok(push_subpics(text, alloc, layout, count)?),
+        Err(LayoutError::Fault(fault)) => Ok(write!(text, "fault {fault}")?),
         Err(LayoutError::Memory) => bail!("out of memory"),
     }
 }
 
-/// Tells of the subpictures of a layout.
-fn layout_text(alloc: Global, layout: &Layout, count: u32) -> Result<String, AllocError>
+/// Appends the subpictures of a layout.
+fn push_subpics(
+    text: &mut String,
+    alloc: Global,
+    layout: &Layout,
+    count: u32,
+) -> Result<(), AllocError>
     requires { length layout.now.subpics ≡ count }
 {
-    let mut text = String::new(alloc);
     for subpic in 0..count {
-        text.push_str(mark(subpic as usize, " | "))?;
-        push_slices(&mut text, layout, subpic)?;
-        push_region(&mut text, &layout.region(alloc, subpic)?)?;
+        push_subpic(text, alloc, layout, subpic)?;
     }
-    Ok(text)
+    Ok(())
+}
+
+/// Appends a subpicture: its slices, and itself as a picture of its own.
+fn push_subpic(
+    text: &mut String,
+    alloc: Global,
+    layout: &Layout,
+    subpic: u32,
+) -> Result<(), AllocError>
+    requires { subpic < length layout.now.subpics }
+{
+    text.push_str(mark(subpic as usize, " | "))?;
+    push_slices(text, layout, subpic)?;
+    push_region(text, &layout.region(alloc, subpic)?)
 }
 
 /// Appends the slices of a subpicture.

@@ -46,59 +46,65 @@ fn main(rt: HostRuntime) -> ExitCode {
 fn answer_lines(rt: &(impl Input + Print + AllocGlobal)) -> Result<()> {
     let alloc = rt.alloc();
     let mut answers = BufWriter::new(alloc, io::writer(rt))?;
+    let mut text = String::new(alloc);
     for (at, line) in BufReader::new(alloc, rt.reader())?.lines(alloc).enumerate() {
         let line = line?;
-        let answer = answer_line(alloc, line.as_str()).context(format_args!("line {}", at + 1))?;
-        if let Some(answer) = answer {
-            writeln!(answers, "{answer}")?;
+        text.clear();
+        let calls = answer_line(&mut text, alloc, line.as_str());
+        if calls.context(format_args!("line {}", at + 1))? {
+            writeln!(answers, "{text}")?;
         }
     }
     answers.flush()?;
     Ok(())
 }
 
-/// The answer to a line, where it is one of calls.
-fn answer_line(alloc: Global, line: &str) -> Result<Option<String>> {
+/// Answers a line, where it is one of calls.
+fn answer_line(text: &mut String, alloc: Global, line: &str) -> Result<bool> {
     let words: Vec<&str> = line.split_ascii_whitespace().collect(alloc)?;
-    let answer = match words.as_slice() {
-        [] | ["#", ..] => return Ok(None),
-        ["sum", verb, words @ ..] => summed(alloc, verb, words)?,
-        [verb, words @ ..] => answer(alloc, verb, words)?,
-    };
-    Ok(Some(answer))
+    answer_words(text, alloc, &words)
 }
 
-/// The length and the checksum of an answer.
-fn summed(alloc: Global, verb: &str, words: &[&str]) -> Result<String> {
-    let answer = answer(alloc, verb, words)?;
-    let mut text = String::new(alloc);
-    push_sum(&mut text, answer.as_bytes())?;
-    Ok(text)
+/// Answers the words of a line, where they are those of calls.
+fn answer_words(text: &mut String, alloc: Global, words: &[&str]) -> Result<bool> {
+    match words {
+        [] | ["#", ..] => return Ok(false),
+        ["sum", verb, words @ ..] => tell_sum(text, alloc, verb, words)?,
+        [verb, words @ ..] => answer(text, alloc, verb, words)?,
+    }
+    Ok(true)
 }
 
-/// The answer to a line that begins with this word.
-fn answer(alloc: Global, verb: &str, words: &[&str]) -> Result<String> {
+/// Tells the length and the checksum of an answer.
+fn tell_sum(text: &mut String, alloc: Global, verb: &str, words: &[&str]) -> Result<()> {
+    let mut whole = String::new(alloc);
+    answer(&mut whole, alloc, verb, words)?;
+    Ok(push_sum(text, whole.as_bytes())?)
+}
+
+/// Answers a line that begins with this word.
+fn answer(text: &mut String, alloc: Global, verb: &str, words: &[&str]) -> Result<()> {
     match verb {
-        "bits" | "code" | "codes" => bits::answer(alloc, verb, words),
-        "fields" | "bytes" => lists::answer(alloc, verb, words),
-        "text" => texts::answer(alloc, words),
-        "bounds" | "has" | "precedes" | "layout" => layout::answer(alloc, verb, words),
-        "fit" | "lines" => fit::answer(alloc, verb, words),
-        _ => answer_of_units(alloc, verb, words),
+        "bits" | "code" | "codes" => bits::answer(text, alloc, verb, words),
+        "fields" | "bytes" | "short" => lists::answer(text, alloc, verb, words),
+        "text" => texts::answer(text, words),
+        "bounds" | "has" | "precedes" | "layout" => layout::answer(text, alloc, verb, words),
+        "fit" | "lines" => fit::answer(text, alloc, verb, words),
+        _ => answer_of_units(text, alloc, verb, words),
     }
 }
 
-/// The answer to a line of units or of structures.
-fn answer_of_units(alloc: Global, verb: &str, words: &[&str]) -> Result<String> {
+/// Answers a line of units or of structures.
+fn answer_of_units(text: &mut String, alloc: Global, verb: &str, words: &[&str]) -> Result<()> {
     match verb {
-        "split" | "waits" => splitter::answer(alloc, verb, words),
-        "take" => reader::answer(alloc, words),
-        "source" | "sink" | "grow" => memory::answer(alloc, verb, words),
+        "split" | "waits" => splitter::answer(text, alloc, verb, words),
+        "take" => reader::answer(text, alloc, words),
+        "source" | "sink" | "grow" => memory::answer(text, alloc, verb, words),
         "header" | "emulation" | "escape" | "unescape" | "places" | "units" => {
-            unit::answer(alloc, verb, words)
+            unit::answer(text, alloc, verb, words)
         }
-        "sps" | "pps" | "aps" | "sei" => sets::answer(alloc, verb, words),
-        "messages" | "spell" | "set" => rbsps::answer(alloc, verb, words),
-        _ => structures::answer(alloc, verb, words),
+        "sps" | "pps" | "aps" | "sei" => sets::answer(text, alloc, verb, words),
+        "messages" | "spell" | "set" => rbsps::answer(text, alloc, verb, words),
+        _ => structures::answer(text, alloc, verb, words),
     }
 }

@@ -1,6 +1,5 @@
 //! Sources and sinks in memory.
 
-use crate::reader::calls_of;
 use crate::words::{bytes_of, numbers_of, push_bytes, push_gap};
 use anyhow::{Context, Result, bail};
 use std::alloc::Global;
@@ -14,50 +13,71 @@ const MOST_ROOM: usize = 64;
 /// - `sink ROOM PIECES FAILING BYTES ..` writes to a sink with this room, that takes pieces of these sizes in turn, and whose calls of
 ///   these numbers fail. It tells how many bytes each call takes, for `all:BYTES` whether all are written, and the bytes in the end.
 /// - `grow BYTES ..` writes to a sink that grows, and tells the same of it.
-pub(crate) fn answer(alloc: Global, verb: &str, words: &[&str]) -> Result<String> {
+pub(crate) fn answer(text: &mut String, alloc: Global, verb: &str, words: &[&str]) -> Result<()> {
     match (verb, words) {
         ("source", [pieces, failing, bytes, reads @ ..]) => {
-            source_text(alloc, source_of(alloc, pieces, failing, bytes)?, reads)
+            tell_source(
+                text,
+                alloc,
+                source_of(alloc, pieces, failing, bytes)?,
+                reads,
+            )
         }
         ("sink", [room, pieces, failing, writes @ ..]) => {
-            sink_text(alloc, sink_of(alloc, room, pieces, failing)?, writes)
+            tell_sink(
+                text,
+                alloc,
+                &mut sink_of(alloc, room, pieces, failing)?,
+                writes,
+            )
         }
-        ("grow", writes) => grown_text(alloc, writes),
+        ("grow", writes) => tell_grown(text, alloc, writes),
         _ => bail!("no such call of a source or a sink"),
     }
 }
 
-fn source_of(alloc: Global, pieces: &str, failing: &str, bytes: &str) -> Result<MemorySource> {
-    let (pieces, failing) = (numbers_of(alloc, pieces)?, calls_of(alloc, failing)?);
+/// A source that gives bytes in pieces of these sizes in turn, and whose calls of these numbers fail.
+pub(crate) fn source_of(
+    alloc: Global,
+    pieces: &str,
+    failing: &str,
+    bytes: &str,
+) -> Result<MemorySource> {
+    let (pieces, failing) = (numbers_of(alloc, pieces)?, numbers_of(alloc, failing)?);
     Ok(MemorySource::new(bytes_of(alloc, bytes)?, pieces, failing))
 }
 
-fn sink_of(alloc: Global, room: &str, pieces: &str, failing: &str) -> Result<MemorySink> {
-    let (pieces, failing) = (numbers_of(alloc, pieces)?, calls_of(alloc, failing)?);
+/// A sink with this room that takes pieces of these sizes in turn, and whose calls of these numbers fail.
+pub(crate) fn sink_of(
+    alloc: Global,
+    room: &str,
+    pieces: &str,
+    failing: &str,
+) -> Result<MemorySink> {
+    let (pieces, failing) = (numbers_of(alloc, pieces)?, numbers_of(alloc, failing)?);
     Ok(MemorySink::new(alloc, room.parse::<usize>()?, pieces, failing)?)
 }
 
-/// What reads of a closed source and of this one give.
-fn source_text(alloc: Global, source: MemorySource, reads: &[&str]) -> Result<String> {
+/// Tells what reads of a closed source and of this one give.
+fn tell_source(
+    text: &mut String,
+    alloc: Global,
+    source: MemorySource,
+    reads: &[&str],
+) -> Result<()> {
     let mut sources: Vec<Box<dyn Source>> = Vec::new(alloc);
     sources.push(Box::new(alloc, ClosedSource::new())?)?;
     sources.push(Box::new(alloc, source)?)?;
-    reads_text(alloc, &mut sources, reads)
+    tell_reads(text, &mut sources, reads)
 }
 
-/// What these reads of some sources give.
-fn reads_text(alloc: Global, sources: &mut Vec<Box<dyn Source>>, reads: &[&str]) -> Result<String> {
-    let mut text = String::new(alloc);
+/// Tells what these reads of some sources give.
+fn tell_reads(text: &mut String, sources: &mut Vec<Box<dyn Source>>, reads: &[&str]) -> Result<()> {
     for read in reads {
         let (at, room) = read.split_once(':').context("no room")?;
-        tell_read(
-            &mut text,
-            sources,
-            at.parse::<usize>()?,
-            room.parse::<usize>()?,
-        )?;
+        tell_read(text, sources, at.parse::<usize>()?, room.parse::<usize>()?)?;
     }
-    Ok(text)
+    Ok(())
 }
 
 /// Tells what a read of a source of a list gives.
@@ -79,27 +99,28 @@ fn tell_read(
     Ok(())
 }
 
-/// What writes to a sink come to, and its bytes in the end.
-fn sink_text(alloc: Global, mut sink: MemorySink, writes: &[&str]) -> Result<String> {
-    let mut text = String::new(alloc);
-    tell_writes(alloc, &mut text, &mut sink, writes)?;
-    push_bytes(&mut text, sink.bytes())?;
-    Ok(text)
+/// Tells what writes to a sink come to, and its bytes in the end.
+fn tell_sink(
+    text: &mut String,
+    alloc: Global,
+    sink: &mut MemorySink,
+    writes: &[&str],
+) -> Result<()> {
+    tell_writes(text, alloc, sink, writes)?;
+    Ok(push_bytes(text, sink.bytes())?)
 }
 
-/// What writes to a sink that grows come to, and its bytes in the end.
-fn grown_text(alloc: Global, writes: &[&str]) -> Result<String> {
+/// Tells what writes to a sink that grows come to, and its bytes in the end.
+fn tell_grown(text: &mut String, alloc: Global, writes: &[&str]) -> Result<()> {
     let mut sink = GrowSink::new(alloc);
-    let mut text = String::new(alloc);
-    tell_writes(alloc, &mut text, &mut sink, writes)?;
-    push_bytes(&mut text, sink.bytes())?;
-    Ok(text)
+    tell_writes(text, alloc, &mut sink, writes)?;
+    Ok(push_bytes(text, sink.bytes())?)
 }
 
 /// Tells what writes come to, with a blank behind each.
 fn tell_writes<K: Sink>(
-    alloc: Global,
     text: &mut String,
+    alloc: Global,
     sink: &mut K,
     writes: &[&str],
 ) -> Result<()> {

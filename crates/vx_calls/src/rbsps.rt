@@ -12,11 +12,11 @@ use vx_sei::{Message, MessageList, read_sei, write_sei};
 /// - `spell TYPE=PAYLOAD ..` tells the length of each message as it is spelled, and the RBSP of all of them.
 /// - `set RBSP` tells the type and the id of an adaptation parameter set, and the RBSP that is written of it, or `dropped`, or why it is
 ///   refused.
-pub(crate) fn answer(alloc: Global, verb: &str, words: &[&str]) -> Result<String> {
+pub(crate) fn answer(text: &mut String, alloc: Global, verb: &str, words: &[&str]) -> Result<()> {
     match (verb, words) {
-        ("messages", [rbsp]) => Ok(carried_text(alloc, &bytes_of(alloc, rbsp)?)?),
-        ("spell", messages) => spelled_text(alloc, &messages_of(alloc, messages)?),
-        ("set", [rbsp]) => set_text(alloc, &bytes_of(alloc, rbsp)?),
+        ("messages", [rbsp]) => Ok(tell_carried(text, alloc, &bytes_of(alloc, rbsp)?)?),
+        ("spell", messages) => tell_spelled(text, alloc, &messages_of(alloc, messages)?),
+        ("set", [rbsp]) => tell_set(text, alloc, &bytes_of(alloc, rbsp)?),
         _ => bail!("no such call of an RBSP"),
     }
 }
@@ -34,14 +34,12 @@ pub(crate) fn messages_of(alloc: Global, words: &[&str]) -> Result<MessageList> 
     Ok(messages)
 }
 
-/// What is told of the messages of an RBSP.
-fn carried_text(alloc: Global, rbsp: &[u8]) -> Result<String, AllocError> {
-    let mut text = String::new(alloc);
+/// Tells of the messages of an RBSP.
+fn tell_carried(text: &mut String, alloc: Global, rbsp: &[u8]) -> Result<(), AllocError> {
     match read_sei(alloc, rbsp)? {
-        Some(messages) => tell_messages(&mut text, &messages)?,
-        None => text.push_str("none")?,
+        Some(messages) => tell_messages(text, &messages),
+        None => text.push_str("none"),
     }
-    Ok(text)
 }
 
 /// Tells of messages, or that there are none.
@@ -57,33 +55,28 @@ fn tell_messages(text: &mut String, messages: &MessageList) -> Result<(), AllocE
     Ok(())
 }
 
-/// What is told of messages that are written.
-fn spelled_text(alloc: Global, messages: &MessageList) -> Result<String> {
+/// Tells of messages that are written.
+fn tell_spelled(text: &mut String, alloc: Global, messages: &MessageList) -> Result<()> {
     if messages.len() == 0 {
         bail!("no message");
     }
-    let rbsp = write_sei(alloc, messages)?;
-    let mut text = String::new(alloc);
     for message in messages.as_slice() {
         write!(text, "{} ", message.spelled_len())?;
     }
-    push_bytes(&mut text, &rbsp)?;
-    Ok(text)
+    Ok(push_bytes(text, &write_sei(alloc, messages)?)?)
 }
 
-/// What is told of an RBSP of an adaptation parameter set.
-fn set_text(alloc: Global, rbsp: &[u8]) -> Result<String> {
-    let mut text = String::new(alloc);
-    match tell_set(alloc, &mut text, rbsp) {
-        Ok(()) => {}
-        Err(ReadError::Refused(refusal)) => push_refusal(&mut text, refusal)?,
+/// Tells of an RBSP of an adaptation parameter set.
+fn tell_set(text: &mut String, alloc: Global, rbsp: &[u8]) -> Result<()> {
+    match tell_set_read(text, alloc, rbsp) {
+        Ok(()) => Ok(()),
+        Err(ReadError::Refused(refusal)) => Ok(push_refusal(text, refusal)?),
         Err(ReadError::Memory) => bail!("out of memory"),
     }
-    Ok(text)
 }
 
 /// Tells of a set that is read, and of what is written of it.
-fn tell_set(alloc: Global, text: &mut String, rbsp: &[u8]) -> Result<(), ReadError> {
+fn tell_set_read(text: &mut String, alloc: Global, rbsp: &[u8]) -> Result<(), ReadError> {
     let Some(aps) = read_aps(alloc, rbsp)? else {
         text.push_str("dropped")?;
         return Ok(());

@@ -1,6 +1,9 @@
 //! Units that are taken from a source.
+ghost use Rattle.std.specs.Prelude.{◌≡◌, true, Some, Ok};
+ghost use Rattle.vx_annexb.specs.declared.unit_reader.Closed.TheVariants.{Failed};
 
-use crate::words::{bytes_of, numbers_of, push_gap, push_refusal, push_unit};
+use crate::memory::source_of;
+use crate::words::{push_gap, push_refusal, push_unit};
 use anyhow::{Result, bail};
 use std::alloc::{AllocError, Global};
 use vx_annexb::{TakeFault, UnitReader};
@@ -8,45 +11,66 @@ use vx_io::MemorySource;
 
 /// `take TIMES PIECES FAILING BYTES` takes units so many times from a source that gives pieces of these sizes in turn, and whose calls
 /// of these numbers fail. It tells what each call answers; a failed read is the last.
-pub(crate) fn answer(alloc: Global, words: &[&str]) -> Result<String> {
+pub(crate) fn answer(text: &mut String, alloc: Global, words: &[&str]) -> Result<()> {
     let [times, pieces, failing, bytes] = words else {
         bail!("no such call of a reader");
     };
-    let bytes = bytes_of(alloc, bytes)?;
-    let failing = calls_of(alloc, failing)?;
-    let mut source = MemorySource::new(bytes, numbers_of(alloc, pieces)?, failing);
-    Ok(take_units(alloc, &mut source, times.parse::<u32>()?)?)
+    let times = times.parse::<u32>()?;
+    let mut source = source_of(alloc, pieces, failing, bytes)?;
+    Ok(tell_taken(text, alloc, &mut source, times)?)
 }
 
-/// The numbers of calls.
-pub(crate) fn calls_of(alloc: Global, word: &str) -> Result<Vec<u64>> {
-    let mut calls = Vec::new(alloc);
-    for number in numbers_of(alloc, word)? {
-        calls.push(u64::from(number))?;
-    }
-    Ok(calls)
-}
-
-/// What a reader of a source answers, so many times at most.
-fn take_units(alloc: Global, source: &mut MemorySource, times: u32) -> Result<String, AllocError> {
+/// Tells what a new reader of a source answers, so many times at most.
+fn tell_taken(
+    text: &mut String,
+    alloc: Global,
+    source: &mut MemorySource,
+    times: u32,
+) -> Result<(), AllocError> {
     let mut reader = UnitReader::new(alloc)?;
-    let mut text = String::new(alloc);
+    take_units(text, &mut reader, source, times)
+}
+
+/// Tells what a reader of a source answers, so many times at most.
+fn take_units(
+    text: &mut String,
+    reader: &mut UnitReader,
+    source: &mut MemorySource,
+    times: u32,
+) -> Result<(), AllocError>
+    requires { reader.old.closed ≡ Some Failed → ⊥ }
+{
     for _ in 0..times {
-        match reader.take(source) {
-            Ok(Some(span)) => push_unit(&mut text, span.offset, reader.bytes(span))?,
-            Ok(None) => tell(&mut text, "end")?,
-            Err(TakeFault::Refused(refusal)) => {
-                push_gap(&mut text)?;
-                push_refusal(&mut text, refusal)?;
-            }
-            Err(TakeFault::SourceFailed) => {
-                tell(&mut text, "failed")?;
-                return Ok(text);
-            }
-            Err(TakeFault::Memory) => return Err(AllocError),
+        if !take_unit(text, reader, source)? {
+            return Ok(());
         }
     }
-    Ok(text)
+    Ok(())
+}
+
+/// Tells what a reader of a source answers; and answers whether it may be asked again.
+fn take_unit(
+    text: &mut String,
+    reader: &mut UnitReader,
+    source: &mut MemorySource,
+) -> Result<bool, AllocError>
+    requires { reader.old.closed ≡ Some Failed → ⊥ }
+    ensures { result ≡ Ok true → reader.new.closed ≡ Some Failed → ⊥ }
+{
+    match reader.take(source) {
+        Ok(Some(span)) => push_unit(text, span.offset, reader.bytes(span))?,
+        Ok(None) => tell(text, "end")?,
+        Err(TakeFault::Refused(refusal)) => {
+            push_gap(text)?;
+            push_refusal(text, refusal)?;
+        }
+        Err(TakeFault::SourceFailed) => {
+            tell(text, "failed")?;
+            return Ok(false);
+        }
+        Err(TakeFault::Memory) => return Err(AllocError),
+    }
+    Ok(true)
 }
 
 /// Appends a word.

@@ -12,7 +12,7 @@ use vx_write::{aps_unit, pps_unit, sei_unit, sps_unit};
 
 /// - `sps RBSP`, `pps TID RBSP` and `aps TID RBSP` read a set, and tell the unit that is written of it, for a picture of this TemporalId.
 /// - `sei TID TYPE=PAYLOAD ..` tells the unit of messages, or `none`.
-pub(crate) fn answer(alloc: Global, verb: &str, words: &[&str]) -> Result<String> {
+pub(crate) fn answer(text: &mut String, alloc: Global, verb: &str, words: &[&str]) -> Result<()> {
     let unit = match (verb, words) {
         ("sps", [rbsp]) => Some(written_sps(alloc, rbsp)?),
         ("pps", [tid, rbsp]) => Some(written_pps(alloc, tid.parse::<u8>()?, rbsp)?),
@@ -20,12 +20,10 @@ pub(crate) fn answer(alloc: Global, verb: &str, words: &[&str]) -> Result<String
         ("sei", [tid, messages @ ..]) => written_sei(alloc, tid.parse::<u8>()?, messages)?,
         _ => bail!("no such set"),
     };
-    let mut text = String::new(alloc);
     match unit {
-        Some(unit) => push_bytes(&mut text, &unit)?,
-        None => text.push_str("none")?,
+        Some(unit) => Ok(push_bytes(text, &unit)?),
+        None => Ok(text.push_str("none")?),
     }
-    Ok(text)
 }
 
 /// The unit of an SPS.

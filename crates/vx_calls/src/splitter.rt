@@ -1,6 +1,6 @@
 //! Byte streams that are split as they come.
-ghost use Rattle.std.specs.Prelude.{◌<◌, length};
-ghost use Rattle.vx_annexb.specs.Held.{Lends};
+ghost use Rattle.std.specs.Prelude.{◌≡◌, ◌<◌, false, length};
+ghost use Rattle.vx_annexb.specs.Held.{Lends, fed, is_all};
 
 use crate::words::{bytes_of, numbers_of, push_gap, push_refusal, push_unit};
 use anyhow::{Result, bail};
@@ -11,7 +11,7 @@ use vx_bits::Refusal;
 /// - `split SIZES BYTES` feeds bytes in pieces of these sizes in turn, and tells the units, each by its place, its length and its bytes,
 ///   and how the stream ends.
 /// - `waits SIZES BYTES` tells besides what is answered behind each piece: a dot where no further unit is seen.
-pub(crate) fn answer(alloc: Global, verb: &str, words: &[&str]) -> Result<String> {
+pub(crate) fn answer(text: &mut String, alloc: Global, verb: &str, words: &[&str]) -> Result<()> {
     let [sizes, bytes] = words else {
         bail!("no such call of a splitter");
     };
@@ -20,32 +20,51 @@ pub(crate) fn answer(alloc: Global, verb: &str, words: &[&str]) -> Result<String
         bail!("no sizes");
     }
     let bytes = bytes_of(alloc, bytes)?;
-    Ok(split(alloc, &sizes, &bytes, verb == "waits")?)
+    Ok(tell_split(text, alloc, &sizes, &bytes, verb == "waits")?)
 }
 
-/// What is told of bytes that come in pieces of these sizes in turn.
-fn split(alloc: Global, sizes: &[u32], bytes: &[u8], waits: bool) -> Result<String, AllocError>
+/// Tells of the bytes of a stream that come in pieces of these sizes in turn.
+fn tell_split(
+    text: &mut String,
+    alloc: Global,
+    sizes: &[u32],
+    bytes: &[u8],
+    waits: bool,
+) -> Result<(), AllocError>
     requires { 0 < length sizes.now }
 {
     let mut splitter = Splitter::new(alloc);
-    let mut text = String::new(alloc);
+    split(text, &mut splitter, sizes, bytes, waits)
+}
+
+/// Feeds bytes to a splitter that has none, in pieces of these sizes in turn, and tells of the units.
+fn split(
+    text: &mut String,
+    splitter: &mut Splitter,
+    sizes: &[u32],
+    bytes: &[u8],
+    waits: bool,
+) -> Result<(), AllocError>
+    requires sizes { 0 < length sizes.now }
+    requires going { is_all splitter.old ≡ false }
+    requires none { fed splitter.old ≡ 0 }
+{
     let mut at = 0;
     let mut turn = 0usize;
     while at < bytes.len() {
         let size = piece_size(sizes, turn);
         let end = at + size.min(bytes.len() - at);
         splitter.feed(&bytes[at..end])?;
-        let refusal = take_units(&mut text, &mut splitter)?;
+        let refusal = take_units(text, splitter)?;
         if waits {
-            tell_stop(&mut text, refusal, ".")?;
+            tell_stop(text, refusal, ".")?;
         }
         at = end;
         turn = turn.wrapping_add(1);
     }
     splitter.finish();
-    let refusal = take_units(&mut text, &mut splitter)?;
-    tell_stop(&mut text, refusal, "end")?;
-    Ok(text)
+    let refusal = take_units(text, splitter)?;
+    tell_stop(text, refusal, "end")
 }
 
 /// The size of a piece, which is at least 1.

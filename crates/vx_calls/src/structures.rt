@@ -6,7 +6,9 @@ use crate::bits::MOST_READ;
 use crate::claims::claimed;
 use crate::composite;
 use crate::tables::coded;
-use crate::words::{bytes_of, fields_of, items_of, push_bytes, push_gap, push_items, push_refusal};
+use crate::words::{
+    bytes_of, items_of, numbers_of, push_bytes, push_gap, push_items, push_refusal,
+};
 use anyhow::{Context, Result, bail};
 use std::alloc::{AllocError, Global};
 use vx_bits::{BitReader, BitWriter, Fields, ReadError, Refusal};
@@ -31,10 +33,11 @@ pub(crate) enum Structure {
 ///   / ITEM ..` the items that are put together of those of some fields and those of the others. `left` says that items are left.
 /// - `depends NAME GIVEN SHOWN` tells whether fields depend only on shown ones, where given numbers are known, and `stars NAME GIVEN
 ///   SHOWN` whether the shown ones are those without a star.
-pub(crate) fn answer(alloc: Global, verb: &str, words: &[&str]) -> Result<String> {
+pub(crate) fn answer(text: &mut String, alloc: Global, verb: &str, words: &[&str]) -> Result<()> {
     match (verb, words) {
         ("depends" | "stars", [name, given, shown]) => {
-            claim_text(
+            tell_claim(
+                text,
                 alloc,
                 verb == "depends",
                 &claimed(alloc, name)?,
@@ -42,35 +45,42 @@ pub(crate) fn answer(alloc: Global, verb: &str, words: &[&str]) -> Result<String
                 shown,
             )
         }
-        (_, [name, words @ ..]) => coded_text(alloc, verb, &coded(alloc, name)?, words),
+        (_, [name, words @ ..]) => tell_coded(text, alloc, verb, &coded(alloc, name)?, words),
         _ => bail!("no such call"),
     }
 }
 
-/// The answer to a line of a structure.
-fn coded_text(alloc: Global, verb: &str, structure: &Structure, words: &[&str]) -> Result<String> {
+/// Answers a line of a structure.
+fn tell_coded(
+    text: &mut String,
+    alloc: Global,
+    verb: &str,
+    structure: &Structure,
+    words: &[&str],
+) -> Result<()> {
     match (verb, words) {
-        ("value", [bytes]) => value_text(alloc, structure, bytes),
-        ("read", [bytes, fields @ ..]) => read_text(alloc, structure, bytes, fields),
-        ("pass", [bytes, fields @ ..]) => pass_text(alloc, structure, bytes, fields),
-        ("write", items) => write_text(alloc, structure, items),
-        ("keep", items) => keep_text(alloc, structure, items),
-        ("rewrite", [fields, items @ ..]) => rewrite_text(alloc, structure, fields, items),
+        ("value", [bytes]) => tell_value(text, alloc, structure, bytes),
+        ("read", [bytes, fields @ ..]) => tell_read(text, alloc, structure, bytes, fields),
+        ("pass", [bytes, fields @ ..]) => tell_passed(text, alloc, structure, bytes, fields),
+        ("write", items) => tell_written(text, alloc, structure, &items_of(alloc, items)?),
+        ("keep", items) => tell_kept(text, alloc, structure, &items_of(alloc, items)?),
+        ("rewrite", [fields, items @ ..]) => rewrite_words(text, alloc, structure, fields, items),
         _ => bail!("no such call of a structure"),
     }
 }
 
 /// Tells whether a claim holds.
-fn claim_text(
+fn tell_claim(
+    text: &mut String,
     alloc: Global,
     depends: bool,
     structure: &Structure,
     given: &str,
     shown: &str,
-) -> Result<String> {
-    let (given, shown) = (fields_of(alloc, given)?, fields_of(alloc, shown)?);
+) -> Result<()> {
+    let (given, shown) = (numbers_of(alloc, given)?, numbers_of(alloc, shown)?);
     let holds = holds(depends, structure, &given, &shown)?;
-    Ok(format!(in alloc; "{holds}")?)
+    Ok(write!(text, "{holds}")?)
 }
 
 /// Whether a claim holds: of what fields depend on, or else of stars.
@@ -166,48 +176,63 @@ fn rewrite(
 }
 
 /// Tells of the value of a table.
-fn value_text(alloc: Global, structure: &Structure, bytes: &str) -> Result<String> {
+fn tell_value(text: &mut String, alloc: Global, structure: &Structure, bytes: &str) -> Result<()> {
     let Structure::Table(rows) = structure else {
         bail!("no table");
     };
     let rbsp = rbsp_of(alloc, bytes)?;
-    let mut text = String::new(alloc);
     match read_value(alloc, rows, &mut Scope::new(), &rbsp.bytes) {
-        Ok(items) => push_items(&mut text, &items)?,
-        Err(ReadError::Refused(refusal)) => push_refusal(&mut text, refusal)?,
+        Ok(items) => Ok(push_items(text, &items)?),
+        Err(ReadError::Refused(refusal)) => Ok(push_refusal(text, refusal)?),
         Err(ReadError::Memory) => bail!("out of memory"),
     }
-    Ok(text)
 }
 
 /// Tells of a structure that is read.
-fn read_text(alloc: Global, structure: &Structure, bytes: &str, fields: &[&str]) -> Result<String> {
+fn tell_read(
+    text: &mut String,
+    alloc: Global,
+    structure: &Structure,
+    bytes: &str,
+    fields: &[&str],
+) -> Result<()> {
     let rbsp = rbsp_of(alloc, bytes)?;
     let mut scope = Scope::new();
     let mut bits = BitReader::new(&rbsp.bytes);
     let mut items = Fields::new(alloc);
     let read = read(structure, &mut scope, &mut bits, &mut items);
-    let mut text = String::new(alloc);
-    push_items(&mut text, &items)?;
+    push_items(text, &items)?;
+    push_reading(text, read, &bits)?;
+    push_latest(text, &scope, fields)
+}
+
+/// Appends how reading ended, where memory sufficed.
+fn push_reading(
+    text: &mut String,
+    read: Result<(), ReadError>,
+    bits: &BitReader<'_>,
+) -> Result<()> {
     match read {
-        Ok(()) => push_end(&mut text, None, &bits)?,
-        Err(ReadError::Refused(refusal)) => push_end(&mut text, Some(refusal), &bits)?,
+        Ok(()) => Ok(push_end(text, None, bits)?),
+        Err(ReadError::Refused(refusal)) => Ok(push_end(text, Some(refusal), bits)?),
         Err(ReadError::Memory) => bail!("out of memory"),
     }
-    push_latest(&mut text, &scope, fields)?;
-    Ok(text)
 }
 
 /// Tells of a structure that is passed over.
-fn pass_text(alloc: Global, structure: &Structure, bytes: &str, fields: &[&str]) -> Result<String> {
+fn tell_passed(
+    text: &mut String,
+    alloc: Global,
+    structure: &Structure,
+    bytes: &str,
+    fields: &[&str],
+) -> Result<()> {
     let rbsp = rbsp_of(alloc, bytes)?;
     let mut scope = Scope::new();
     let mut bits = BitReader::new(&rbsp.bytes);
     let passed = pass(structure, &mut scope, &mut bits);
-    let mut text = String::new(alloc);
-    push_end(&mut text, passed.err(), &bits)?;
-    push_latest(&mut text, &scope, fields)?;
-    Ok(text)
+    push_end(text, passed.err(), &bits)?;
+    push_latest(text, &scope, fields)
 }
 
 /// Appends how reading ended, and where.
@@ -234,54 +259,72 @@ fn push_latest(text: &mut String, scope: &Scope, fields: &[&str]) -> Result<()> 
 }
 
 /// Tells of a structure that is written.
-fn write_text(alloc: Global, structure: &Structure, items: &[&str]) -> Result<String> {
-    let items = items_of(alloc, items)?;
+fn tell_written(
+    text: &mut String,
+    alloc: Global,
+    structure: &Structure,
+    items: &Fields,
+) -> Result<()> {
     let mut bits = BitWriter::new(alloc);
-    let mut unwritten = Unwritten::new(&items, 0, items.len());
+    let mut unwritten = Unwritten::new(items, 0, items.len());
     let written = write(structure, &mut bits, &mut unwritten);
-    let mut text = String::new(alloc);
-    if spelled(&mut text, written, unwritten.is_empty())? {
-        push_bytes(&mut text, &bits.close()?)?;
+    if spelled(text, written, unwritten.is_empty())? {
+        push_bytes(text, &bits.close()?)?;
     }
-    Ok(text)
+    Ok(())
 }
 
 /// Tells of a structure whose items are sifted.
-fn keep_text(alloc: Global, structure: &Structure, items: &[&str]) -> Result<String> {
-    let items = items_of(alloc, items)?;
+fn tell_kept(
+    text: &mut String,
+    alloc: Global,
+    structure: &Structure,
+    items: &Fields,
+) -> Result<()> {
     let mut into = Fields::new(alloc);
-    let mut unwritten = Unwritten::new(&items, 0, items.len());
+    let mut unwritten = Unwritten::new(items, 0, items.len());
     let kept = keep(structure, &mut unwritten, &mut into);
-    let mut text = String::new(alloc);
-    if spelled(&mut text, kept, unwritten.is_empty())? {
-        push_items(&mut text, &into)?;
+    if spelled(text, kept, unwritten.is_empty())? {
+        push_items(text, &into)?;
     }
-    Ok(text)
+    Ok(())
 }
 
-/// Tells of a structure that is rewritten.
-fn rewrite_text(
+/// Tells of a structure that is rewritten, of these words.
+fn rewrite_words(
+    text: &mut String,
     alloc: Global,
     structure: &Structure,
     fields: &str,
     items: &[&str],
-) -> Result<String> {
+) -> Result<()> {
     let slash = items.iter().position(|word| *word == "/").context("no /")?;
     let (shown, others) = items.split_at(slash);
     let (shown, others) = (items_of(alloc, shown)?, items_of(alloc, &others[1..])?);
-    let names = fields_of(alloc, fields)?;
+    let names = numbers_of(alloc, fields)?;
+    tell_rewritten(text, alloc, structure, &names, &shown, &others)
+}
+
+/// Tells of a structure that is rewritten: of the items of these fields, and of the others.
+fn tell_rewritten(
+    text: &mut String,
+    alloc: Global,
+    structure: &Structure,
+    names: &[u16],
+    shown: &Fields,
+    others: &Fields,
+) -> Result<()> {
     let mut rewriter = Rewriter::new(
-        &names,
-        Unwritten::new(&shown, 0, shown.len()),
-        Unwritten::new(&others, 0, others.len()),
+        names,
+        Unwritten::new(shown, 0, shown.len()),
+        Unwritten::new(others, 0, others.len()),
     );
     let mut into = Fields::new(alloc);
     let rewritten = rewrite(structure, &mut rewriter, &mut into);
-    let mut text = String::new(alloc);
-    if spelled(&mut text, rewritten, rewriter.is_empty())? {
-        push_items(&mut text, &into)?;
+    if spelled(text, rewritten, rewriter.is_empty())? {
+        push_items(text, &into)?;
     }
-    Ok(text)
+    Ok(())
 }
 
 /// Whether items were spelled; tells where not, and where some are left.

@@ -1,7 +1,7 @@
 //! Single units: their headers, their emulation bytes, and how they are written to a sink.
 
-use crate::reader::calls_of;
-use crate::words::{bytes_of, mark, numbers_of, push_bytes, push_gap};
+use crate::memory::sink_of;
+use crate::words::{bytes_of, mark, push_bytes, push_gap};
 use anyhow::{Context, Result, bail};
 use std::alloc::{AllocError, Global};
 use vx_annexb::{
@@ -15,30 +15,25 @@ use vx_io::MemorySink;
 /// - `unescape BYTES` tells the bytes of a unit that keeps the rules, and `places BYTES` the place behind each of them.
 /// - `units ROOM PIECES FAILING FRONT/REST ..` writes units to a sink with this room, that takes pieces of these sizes in turn, and whose
 ///   calls of these numbers fail. It tells behind each what the sink has then.
-pub(crate) fn answer(alloc: Global, verb: &str, words: &[&str]) -> Result<String> {
+pub(crate) fn answer(text: &mut String, alloc: Global, verb: &str, words: &[&str]) -> Result<()> {
     if let ("units", [room, pieces, failing, units @ ..]) = (verb, words) {
-        let failing = calls_of(alloc, failing)?;
-        let pieces = numbers_of(alloc, pieces)?;
-        let mut sink = MemorySink::new(alloc, room.parse::<usize>()?, pieces, failing)?;
-        return write_units(alloc, &mut sink, units);
+        let mut sink = sink_of(alloc, room, pieces, failing)?;
+        return write_units(text, alloc, &mut sink, units);
     }
     let [bytes] = words else {
         bail!("no such call of a unit");
     };
-    let bytes = bytes_of(alloc, bytes)?;
-    let mut text = String::new(alloc);
-    tell_unit(alloc, &mut text, verb, &bytes)?;
-    Ok(text)
+    tell_unit(text, alloc, verb, &bytes_of(alloc, bytes)?)
 }
 
 /// Tells what a call of these bytes answers.
-fn tell_unit(alloc: Global, text: &mut String, verb: &str, bytes: &[u8]) -> Result<()> {
+fn tell_unit(text: &mut String, alloc: Global, verb: &str, bytes: &[u8]) -> Result<()> {
     match verb {
         "header" => Ok(tell_header(text, read_header(bytes))?),
         "emulation" => Ok(tell_fault(text, emulation_fault(bytes))?),
-        "escape" => tell_escaped(alloc, text, bytes),
-        "unescape" => tell_unescaped(alloc, text, bytes),
-        "places" => tell_places(alloc, text, bytes),
+        "escape" => tell_escaped(text, alloc, bytes),
+        "unescape" => tell_unescaped(text, alloc, bytes),
+        "places" => tell_places(text, alloc, bytes),
         _ => bail!("no such call of a unit"),
     }
 }
@@ -66,21 +61,21 @@ fn tell_fault(text: &mut String, fault: Option<usize>) -> Result<(), AllocError>
     }
 }
 
-fn tell_escaped(alloc: Global, text: &mut String, bytes: &[u8]) -> Result<()> {
+fn tell_escaped(text: &mut String, alloc: Global, bytes: &[u8]) -> Result<()> {
     if !bytes.is_empty() && bytes[bytes.len() - 1] == 0 {
         bail!("ends in 00");
     }
     Ok(push_bytes(text, &escape(alloc, bytes)?)?)
 }
 
-fn tell_unescaped(alloc: Global, text: &mut String, unit: &[u8]) -> Result<()> {
+fn tell_unescaped(text: &mut String, alloc: Global, unit: &[u8]) -> Result<()> {
     let None = emulation_fault(unit) else {
         bail!("breaks a rule");
     };
     Ok(push_bytes(text, &unescape(alloc, unit)?)?)
 }
 
-fn tell_places(alloc: Global, text: &mut String, unit: &[u8]) -> Result<()> {
+fn tell_places(text: &mut String, alloc: Global, unit: &[u8]) -> Result<()> {
     let None = emulation_fault(unit) else {
         bail!("breaks a rule");
     };
@@ -95,14 +90,24 @@ fn tell_places(alloc: Global, text: &mut String, unit: &[u8]) -> Result<()> {
 }
 
 /// Tells of units that are written to a sink one after another.
-fn write_units(alloc: Global, sink: &mut MemorySink, units: &[&str]) -> Result<String> {
-    let mut text = String::new(alloc);
+fn write_units(
+    text: &mut String,
+    alloc: Global,
+    sink: &mut MemorySink,
+    units: &[&str],
+) -> Result<()> {
     for unit in units {
         let (front, rest) = unit.split_once('/').context("no rest")?;
-        let written = write_unit(sink, &bytes_of(alloc, front)?, &bytes_of(alloc, rest)?);
-        push_gap(&mut text)?;
-        text.push_str(if written.is_ok() { "ok:" } else { "failed:" })?;
-        push_bytes(&mut text, sink.bytes())?;
+        let is_written = writes_unit(alloc, sink, front, rest)?;
+        push_gap(text)?;
+        text.push_str(if is_written { "ok:" } else { "failed:" })?;
+        push_bytes(text, sink.bytes())?;
     }
-    Ok(text)
+    Ok(())
+}
+
+/// Whether the unit of these bytes in front and the rest is written.
+fn writes_unit(alloc: Global, sink: &mut MemorySink, front: &str, rest: &str) -> Result<bool> {
+    let (front, rest) = (bytes_of(alloc, front)?, bytes_of(alloc, rest)?);
+    Ok(write_unit(sink, &front, &rest).is_ok())
 }

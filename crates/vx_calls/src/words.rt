@@ -2,6 +2,8 @@
 
 use anyhow::{Context, Result};
 use std::alloc::{AllocError, Global};
+use std::num::ParseIntError;
+use std::str::FromStr;
 use vx_bits::{Fields, Item, Refusal};
 
 /// The most bytes that are told by their digits.
@@ -18,25 +20,16 @@ pub(crate) fn push_gap(text: &mut String) -> Result<(), AllocError> {
 }
 
 /// The numbers of a list with commas, or none for `-`.
-pub(crate) fn numbers_of(alloc: Global, word: &str) -> Result<Vec<u32>> {
+pub(crate) fn numbers_of<N: Copy + FromStr<Err = ParseIntError>>(
+    alloc: Global,
+    word: &str,
+) -> Result<Vec<N>> {
     let mut numbers = Vec::new(alloc);
     if word == "-" {
         return Ok(numbers);
     }
     for piece in word.split(',') {
-        numbers.push(piece.parse::<u32>()?)?;
-    }
-    Ok(numbers)
-}
-
-/// The numbers of fields and names of a list with commas, or none for `-`.
-pub(crate) fn fields_of(alloc: Global, word: &str) -> Result<Vec<u16>> {
-    let mut numbers = Vec::new(alloc);
-    if word == "-" {
-        return Ok(numbers);
-    }
-    for piece in word.split(',') {
-        numbers.push(piece.parse::<u16>()?)?;
+        numbers.push(piece.parse::<N>()?).map_err(AllocError::from)?;
     }
     Ok(numbers)
 }
