@@ -3,72 +3,95 @@ ghost use Rattle.std.specs.Prelude.{◌≡◌, ◌≤◌, length};
 ghost use Rattle.vx_bits.specs.Limits.{unit_limit};
 
 use crate::fault::LineFault;
-use crate::slices::slice_text;
+use crate::frame::Frame;
+use crate::slices::write_slice;
 use crate::stream::Stream;
 use crate::text::write_items;
-use std::alloc::{AllocError, Global};
-use vx_bits::{BitReader, ReadError};
+use std::alloc::Global;
+use vx_bits::BitReader;
 use vx_ph::{PictureHeader, read_ph};
 use vx_sh::{SliceNumbers, read_sh};
 
-/// A picture header as text, how many entries its lists have, and the bit behind it.
-fn alone_text(alloc: Global, header: &PictureHeader, end: u32) -> Result<String, AllocError> {
-    let mut text = String::from_str(alloc, "header")?;
-    write_items(&mut text, &header.fields)?;
+/// Appends a picture header, how many entries its lists have, and the bit behind it.
+fn write_header(text: &mut String, header: &PictureHeader, end: u32) -> Result<(), LineFault> {
+    text.push_str("header")?;
+    write_items(text, &header.fields)?;
     let (first, second) = (header.lists.first.len(), header.lists.second.len());
     write!(text, " | lists={first},{second} end={end}")?;
-    Ok(text)
+    Ok(())
 }
 
-/// What is read of a picture header, which needn't end a unit.
+/// Appends what is read of a picture header, which needn't end a unit.
 ///
 /// # Errors
 ///
 /// The first refusal; where the sets haven't come; want of memory.
 pub(crate) fn answer_header_alone(
+    text: &mut String,
     alloc: Global,
     stream: &Stream,
     rbsp: &[u8],
-) -> Result<String, LineFault>
+) -> Result<(), LineFault>
     requires { length rbsp.now ≤ unit_limit }
 {
     let (sps, pps) = stream.sets(0)?;
     let mut bits = BitReader::new(rbsp);
     let header = read_ph(alloc, &mut bits, sps, pps)?;
-    Ok(alone_text(alloc, &header, bits.at())?)
+    write_header(text, &header, bits.at())
 }
 
-/// What is read of a slice header under these numbers.
-fn read_alone(alloc: Global, rbsp: &[u8], numbers: &SliceNumbers<'_>) -> Result<String, ReadError>
+/// Appends what is read of a slice header under these numbers.
+fn read_alone(
+    text: &mut String,
+    alloc: Global,
+    rbsp: &[u8],
+    numbers: &SliceNumbers<'_>,
+) -> Result<(), LineFault>
     requires size { length rbsp.now ≤ unit_limit }
     requires few { length numbers.now.ids.now ≤ 1000 }
     requires one_each { length numbers.now.ids.now ≡ length numbers.now.layout.now.subpics }
 {
     let (slice, size) = read_sh(alloc, rbsp, numbers)?;
-    Ok(slice_text(alloc, &slice, size)?)
+    write_slice(text, &slice, size)
 }
 
-/// What is read of a slice header of a unit of a type, under the picture header that came last.
+/// Appends what is read of a slice header of a unit of a type, under what two sets make up and a picture header.
+fn slice_alone(
+    text: &mut String,
+    alloc: Global,
+    nal_type: u8,
+    rbsp: &[u8],
+    frame: &Frame<'_>,
+    header: &PictureHeader,
+) -> Result<(), LineFault>
+    requires { length rbsp.now ≤ unit_limit }
+{
+    let numbers = SliceNumbers {
+        nal_type,
+        sps: frame.sps,
+        pps: frame.pps,
+        header,
+        layout: &frame.layout,
+        ids: &frame.ids,
+    };
+    read_alone(text, alloc, rbsp, &numbers)
+}
+
+/// Appends what is read of a slice header of a unit of a type, under the picture header that came last.
 ///
 /// # Errors
 ///
 /// The first refusal; where the sets or a picture header haven't come; want of memory.
 pub(crate) fn answer_slice_alone(
+    text: &mut String,
     alloc: Global,
     stream: &Stream,
     nal_type: u8,
     rbsp: &[u8],
-) -> Result<String, LineFault>
+) -> Result<(), LineFault>
     requires { length rbsp.now ≤ unit_limit }
 {
+    let header = stream.header()?;
     let frame = stream.frame(alloc, 0)?;
-    let numbers = SliceNumbers {
-        nal_type,
-        sps: frame.sps,
-        pps: frame.pps,
-        header: stream.header()?,
-        layout: &frame.layout,
-        ids: &frame.ids,
-    };
-    Ok(read_alone(alloc, rbsp, &numbers)?)
+    slice_alone(text, alloc, nal_type, rbsp, &frame, header)
 }

@@ -18,46 +18,58 @@ use crate::counts::answer_count;
 use crate::differences::answer_differ;
 use crate::fault::LineFault;
 use crate::feeds::answer_feed;
-use crate::levels::{answer_dpb, answer_levels, answer_ptl, answer_timing};
+use crate::levels::{Asked, answer_asked, answer_levels};
 use crate::lines::{answer_picture_line, answer_refusal_line, answer_unit_line};
 use crate::lists::{
     answer_lists, answer_spell, answer_structure, answer_structures, answer_weights,
 };
 use std::alloc::Global;
 
-/// The answer to the call of a name with these words.
+/// Appends the answer to the call of a name with these words.
 ///
 /// # Errors
 ///
-/// `Word` where there is no such call; else as the call has it.
-fn answer_call(alloc: Global, name: &str, words: &[&str]) -> Result<String, LineFault> {
+/// `Word` where there is no such call, before anything is appended; else as the call has it.
+fn answer_call(
+    text: &mut String,
+    alloc: Global,
+    name: &str,
+    words: &[&str],
+) -> Result<(), LineFault> {
     match name {
-        "structures" => answer_structures(alloc, words),
-        "structure" => answer_structure(alloc, words),
-        "spell" => answer_spell(alloc, words),
-        "lists" => answer_lists(alloc, words),
-        "weights" => answer_weights(alloc, words),
-        "ptl" => answer_ptl(alloc, words),
-        "dpb" => answer_dpb(alloc, words),
-        "timing" => answer_timing(alloc, words),
-        "levels" => answer_levels(alloc),
-        "count" => answer_count(alloc, words),
-        "differ" => answer_differ(alloc, words),
-        "feed" => answer_feed(alloc, words),
-        "unit-line" => answer_unit_line(alloc, words),
-        "picture-line" => answer_picture_line(alloc, words),
-        "refusal-line" => answer_refusal_line(alloc, words),
+        "structures" => answer_structures(text, alloc, words),
+        "structure" => answer_structure(text, alloc, words),
+        "spell" => answer_spell(text, alloc, words),
+        "lists" => answer_lists(text, alloc, words),
+        "weights" => answer_weights(text, alloc, words),
+        "ptl" => answer_asked(text, alloc, Asked::Ptl, words),
+        "dpb" => answer_asked(text, alloc, Asked::Dpb, words),
+        "timing" => answer_asked(text, alloc, Asked::Timing, words),
+        "levels" => answer_levels(text),
+        "count" => answer_count(text, alloc, words),
+        "differ" => answer_differ(text, alloc, words),
+        "feed" => answer_feed(text, alloc, words),
+        "unit-line" => answer_unit_line(text, alloc, words),
+        "picture-line" => answer_picture_line(text, alloc, words),
+        "refusal-line" => answer_refusal_line(text, alloc, words),
         _ => Err(LineFault::Word),
     }
 }
 
-/// What is told of the call that a line asks about; none where its word is none of these.
-pub(crate) fn told_of_call(alloc: Global, line: &str) -> Result<Option<String>, LineFault> {
+/// Appends what is told of the call that a line asks about; false where its word is none of these.
+pub(crate) fn told_of_call(
+    text: &mut String,
+    alloc: Global,
+    line: &str,
+) -> Result<bool, LineFault> {
     let (name, rest) = line.split_once(' ').unwrap_or((line, ""));
     let words: Vec<&str> = rest.split(' ').collect(alloc)?;
-    match answer_call(alloc, name, &words) {
-        Ok(text) => Ok(Some(text)),
-        Err(LineFault::Word) => Ok(None),
+    match answer_call(text, alloc, name, &words) {
+        Ok(()) => Ok(true),
+        Err(LineFault::Word) => {
+            text.clear();
+            Ok(false)
+        }
         Err(fault) => Err(fault),
     }
 }

@@ -2,7 +2,7 @@
 ghost use Rattle.std.specs.Prelude.{◌≤◌, IfOk};
 
 use crate::fault::LineFault;
-use crate::text::refusal_text;
+use crate::text::write_refusal;
 use crate::words::{flag, numbers};
 use std::alloc::{AllocError, Global};
 use vx_bits::Refusal;
@@ -42,21 +42,25 @@ fn previous(lsb: &str, poc: &str) -> Result<PrevTid0, LineFault> {
     })
 }
 
-/// A count as text, or its refusal.
-fn count_text(alloc: Global, answer: Result<i32, Refusal>) -> Result<String, AllocError> {
+/// Appends a count, or its refusal.
+fn write_count(text: &mut String, answer: Result<i32, Refusal>) -> Result<(), AllocError> {
     match answer {
-        Ok(count) => format!(in alloc; "{count}"),
-        Err(refusal) => refusal_text(alloc, refusal),
+        Ok(count) => write!(text, "{count}"),
+        Err(refusal) => write_refusal(text, refusal),
     }
 }
 
 /// `count BITS,LSB CYCLE CLVSS LSB POC`: the count of a picture with these low bits behind a previous picture of these.
-pub(crate) fn answer_count(alloc: Global, words: &[&str]) -> Result<String, LineFault> {
+pub(crate) fn answer_count(
+    text: &mut String,
+    alloc: Global,
+    words: &[&str],
+) -> Result<(), LineFault> {
     let [low, msb, clvss, lsb, poc] = words else {
         return Err(LineFault::Words);
     };
     let fields = count_fields(alloc, low, msb)?;
     let previous = previous(lsb, poc)?;
     let answer = picture_order_count(&fields, flag(clvss)?, previous);
-    Ok(count_text(alloc, answer)?)
+    Ok(write_count(text, answer)?)
 }

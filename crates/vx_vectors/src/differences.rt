@@ -81,10 +81,10 @@ impl Slice {
 }
 
 /// The input of a slice, of whose picture header one field is kept.
-fn input(alloc: Global, slice: &Slice) -> Result<DecodingInput<'_>, AllocError> {
+fn input(alloc: Global, slice: &Slice) -> Result<Box<DecodingInput<'_>>, AllocError> {
     let mut kept = Kept::new(alloc);
     kept.push(slice.header)?;
-    Ok(DecodingInput {
+    let input = DecodingInput {
         kind: IDR,
         sps: Kept::new(alloc),
         pps: Kept::new(alloc),
@@ -97,7 +97,8 @@ fn input(alloc: Global, slice: &Slice) -> Result<DecodingInput<'_>, AllocError> 
         slice_qp: 26,
         place: place(alloc, slice.address),
         payload: slice.payload.as_slice(),
-    })
+    };
+    Ok(Box::new(alloc, input)?)
 }
 
 /// Where the inputs of two slices differ first.
@@ -107,17 +108,26 @@ fn compared(alloc: Global, one: &Slice, other: &Slice) -> Result<Option<Differen
     Ok(same_input(&one, &other))
 }
 
-/// Where two inputs differ, as text.
-fn difference_text(alloc: Global, found: Option<Difference>) -> Result<String, AllocError> {
-    match found {
-        Some(Difference { part, field }) => format!(in alloc; "part={part} field={field}"),
-        None => String::from_str(alloc, "same"),
+/// Appends where the inputs of two slices differ first.
+fn write_difference(
+    text: &mut String,
+    alloc: Global,
+    one: &Slice,
+    other: &Slice,
+) -> Result<(), LineFault> {
+    match compared(alloc, one, other)? {
+        Some(Difference { part, field }) => Ok(write!(text, "part={part} field={field}")?),
+        None => Ok(text.push_str("same")?),
     }
 }
 
 /// `differ ITEM ADDRESS BYTES ITEM ADDRESS BYTES`: where the inputs of two slices of IDR pictures differ first, each with this item of
 /// its picture header, at this address, and with this payload.
-pub(crate) fn answer_differ(alloc: Global, words: &[&str]) -> Result<String, LineFault> {
+pub(crate) fn answer_differ(
+    text: &mut String,
+    alloc: Global,
+    words: &[&str],
+) -> Result<(), LineFault> {
     let [
         header,
         address,
@@ -131,6 +141,5 @@ pub(crate) fn answer_differ(alloc: Global, words: &[&str]) -> Result<String, Lin
     };
     let one = Slice::parse(alloc, header, address, payload)?;
     let other = Slice::parse(alloc, other_header, other_address, other_payload)?;
-    let found = compared(alloc, &one, &other)?;
-    Ok(difference_text(alloc, found)?)
+    write_difference(text, alloc, &one, &other)
 }

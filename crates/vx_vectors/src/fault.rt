@@ -8,7 +8,7 @@ use vx_assemble::FeedFault;
 use vx_bits::{ReadError, Refusal};
 
 /// Why a line gets no answer of what it asks about.
-#[derive(Debug, Drop, Error)]
+#[derive(Clone, Copy, Debug, Error)]
 pub(crate) enum LineFault {
     /// Memory ran out.
     #[error("out of memory")]

@@ -1,13 +1,41 @@
-//! What two sets make up of a picture.
+//! The sets of a picture, and what these make up.
 ghost use Rattle.std.specs.Prelude.{◌≡◌, ◌≤◌, length, IfOk, Ok};
+ghost use Rattle.vx_bits.specs.Limits.{unit_limit};
 ghost use Rattle.vx_pic.specs.PictureLayout.{AnswersLayout, ids_of};
 
-use std::alloc::Global;
+use std::alloc::{AllocError, Global};
 use vx_bits::{IdList, ReadError};
 use vx_layout::Layout;
 use vx_pic::{picture_ids, picture_layout};
-use vx_pps::Pps;
-use vx_sps::Sps;
+use vx_pps::{Pps, read_pps};
+use vx_sps::{Sps, read_sps};
+
+/// The sets of a picture.
+#[derive(Drop)]
+pub(crate) struct Sets {
+    /// The SPS.
+    pub(crate) sps: Sps,
+    /// The PPS.
+    pub(crate) pps: Pps,
+}
+
+impl Sets {
+    /// Those of the RBSPs of an SPS and of a PPS.
+    ///
+    /// # Errors
+    ///
+    /// The first refusal; want of memory.
+    pub(crate) fn read(alloc: Global, sps: &[u8], pps: &[u8]) -> Result<Box<Sets>, ReadError>
+        requires sps { length sps.now ≤ unit_limit }
+        requires pps { length pps.now ≤ unit_limit }
+    {
+        let sets = Sets {
+            sps: read_sps(alloc, sps)?,
+            pps: read_pps(alloc, pps)?,
+        };
+        Ok(Box::new(alloc, sets).map_err(AllocError::from)?)
+    }
+}
 
 /// The sets of a picture, its layout, and the ids of its subpictures.
 #[derive(Drop)]

@@ -2,6 +2,7 @@
 
 use crate::text::{mark, write_bounds, write_bytes, write_entry, write_rects};
 use std::alloc::AllocError;
+use vx_layout::Numbers;
 use vx_pic::{AlfInForce, DecodingInput, Place};
 use vx_rpl::RefList;
 
@@ -37,6 +38,16 @@ fn write_luma(text: &mut String, alf: &AlfInForce<'_>) -> Result<(), AllocError>
     Ok(())
 }
 
+/// Appends the bodies for chroma, and those of the cross-component filters.
+fn write_chroma(text: &mut String, alf: &AlfInForce<'_>) -> Result<(), AllocError> {
+    text.push_str(";chroma:")?;
+    write_body(text, alf.chroma, "-")?;
+    text.push_str(";cc_cb:")?;
+    write_body(text, alf.cc_cb, "-")?;
+    text.push_str(";cc_cr:")?;
+    write_body(text, alf.cc_cr, "-")
+}
+
 /// Appends an adaptive loop filter.
 fn write_alf(text: &mut String, alf: &AlfInForce<'_>) -> Result<(), AllocError> {
     if !alf.enabled {
@@ -45,12 +56,7 @@ fn write_alf(text: &mut String, alf: &AlfInForce<'_>) -> Result<(), AllocError> 
     text.push_str("luma:")?;
     write_luma(text, alf)?;
     write!(text, ";cb:{};cr:{}", u8::from(alf.cb), u8::from(alf.cr))?;
-    text.push_str(";chroma:")?;
-    write_body(text, alf.chroma, "-")?;
-    text.push_str(";cc_cb:")?;
-    write_body(text, alf.cc_cb, "-")?;
-    text.push_str(";cc_cr:")?;
-    write_body(text, alf.cc_cr, "-")
+    write_chroma(text, alf)
 }
 
 /// Appends luma mapping with chroma scaling.
@@ -64,14 +70,20 @@ fn write_lmcs(text: &mut String, lmcs: Option<(&[u8], bool)>) -> Result<(), Allo
     }
 }
 
+/// Appends tiles and slices.
+fn write_layout(text: &mut String, layout: &Numbers) -> Result<(), AllocError> {
+    text.push_str(" columns=")?;
+    write_bounds(text, &layout.columns)?;
+    text.push_str(" rows=")?;
+    write_bounds(text, &layout.rows)?;
+    text.push_str(" slices=")?;
+    write_rects(text, &layout.slices)
+}
+
 /// Appends the place of a slice: its subpicture's size, tiles and slices, and whether in-loop filters cross their borders.
 fn write_place(text: &mut String, place: &Place) -> Result<(), AllocError> {
-    write!(text, " size={}x{} columns=", place.width, place.height)?;
-    write_bounds(text, &place.layout.columns)?;
-    text.push_str(" rows=")?;
-    write_bounds(text, &place.layout.rows)?;
-    text.push_str(" slices=")?;
-    write_rects(text, &place.layout.slices)?;
+    write!(text, " size={}x{}", place.width, place.height)?;
+    write_layout(text, &place.layout)?;
     let (tiles, slices) = (place.across_tiles, place.across_slices);
     write!(text, " across={}{}", u8::from(tiles), u8::from(slices))
 }

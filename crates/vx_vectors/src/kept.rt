@@ -2,23 +2,27 @@
 ghost use Rattle.std.specs.Prelude.{◌≤◌, length};
 ghost use Rattle.vx_bits.specs.Limits.{unit_limit};
 
+use crate::fault::LineFault;
 use crate::meaning::write_picture;
 use crate::sets::write_same_sps;
 use crate::text::{mark, write_items};
 use std::alloc::{AllocError, Global};
-use vx_bits::ReadError;
-use vx_pps::{keep_pps, read_pps};
+use vx_pps::{Pps, keep_pps, read_pps};
 use vx_sps::{Sps, read_sps};
 
-/// The kept items of a PPS.
-pub(crate) fn answer_kept(alloc: Global, rbsp: &[u8]) -> Result<String, ReadError>
+/// Appends the kept items of the PPS of an RBSP.
+pub(crate) fn answer_kept(text: &mut String, alloc: Global, rbsp: &[u8]) -> Result<(), LineFault>
     requires { length rbsp.now ≤ unit_limit }
 {
     let pps = read_pps(alloc, rbsp)?;
-    let kept = keep_pps(alloc, &pps)?;
-    let mut text = String::from_str(alloc, "kept")?;
-    write_items(&mut text, &kept)?;
-    Ok(text)
+    write_kept(text, alloc, &pps)
+}
+
+/// Appends the kept items of a PPS.
+fn write_kept(text: &mut String, alloc: Global, pps: &Pps) -> Result<(), LineFault> {
+    text.push_str("kept")?;
+    let kept = keep_pps(alloc, pps)?;
+    Ok(write_items(text, &kept)?)
 }
 
 /// Appends how many items and structures of lists a set has, and its extra bits of headers.
@@ -38,20 +42,23 @@ fn write_ids(text: &mut String, sps: &Sps) -> Result<(), AllocError> {
     Ok(())
 }
 
-/// The numbers of an SPS as text, and whether what is written of it is this RBSP.
-fn numbers_text(alloc: Global, sps: &Sps, rbsp: &[u8]) -> Result<String, AllocError> {
-    let mut text = String::new(alloc);
-    write_counts(&mut text, sps)?;
-    write_picture(&mut text, alloc, sps)?;
-    write_ids(&mut text, sps)?;
-    write_same_sps(&mut text, alloc, sps, rbsp)?;
-    Ok(text)
+/// Appends the numbers of an SPS, and whether what is written of it is this RBSP.
+fn write_numbers(
+    text: &mut String,
+    alloc: Global,
+    sps: &Sps,
+    rbsp: &[u8],
+) -> Result<(), LineFault> {
+    write_counts(text, sps)?;
+    write_picture(text, sps)?;
+    write_ids(text, sps)?;
+    Ok(write_same_sps(text, alloc, sps, rbsp)?)
 }
 
-/// How many items and structures an SPS has, its picture and its subpictures with their ids, and what is written of it.
-pub(crate) fn answer_numbers(alloc: Global, rbsp: &[u8]) -> Result<String, ReadError>
+/// Appends how many items and structures an SPS has, its picture and its subpictures with their ids, and what is written of it.
+pub(crate) fn answer_numbers(text: &mut String, alloc: Global, rbsp: &[u8]) -> Result<(), LineFault>
     requires { length rbsp.now ≤ unit_limit }
 {
     let sps = read_sps(alloc, rbsp)?;
-    Ok(numbers_text(alloc, &sps, rbsp)?)
+    write_numbers(text, alloc, &sps, rbsp)
 }

@@ -4,7 +4,7 @@ ghost use Rattle.std.specs.Prelude.{◌≤◌, ◌^◌, length, IfOk};
 use crate::fault::LineFault;
 use crate::line::LineBytes;
 use crate::text::write_same;
-use crate::words::{numbers, reading_text, refused, write_refusal};
+use crate::words::{numbers, write_reading, write_refused};
 use std::alloc::{AllocError, Global};
 use vx_bits::{BitReader, BitWriter, Fields, ReadError};
 use vx_ptl::{
@@ -12,6 +12,17 @@ use vx_ptl::{
     read_timing, write_run,
 };
 use vx_table::keeps_only;
+
+/// What a line asks to be read.
+#[derive(Clone, Copy)]
+pub(crate) enum Asked {
+    /// Profile, tier and level.
+    Ptl,
+    /// DPB parameters.
+    Dpb,
+    /// General timing, and sublayer timing behind it.
+    Timing,
+}
 
 /// The highest sublayer of a structure, and whether each has an entry of its own.
 #[derive(Drop)]
@@ -45,50 +56,6 @@ fn written(alloc: Global, read: &Fields) -> Result<Vec<u8>, AllocError> {
     bits.close()
 }
 
-/// What was read of bytes up to a place, and what is written of it.
-fn levels_text(
-    alloc: Global,
-    at: u32,
-    read: &Fields,
-    answer: Result<(), ReadError>,
-    bytes: &[u8],
-) -> Result<String, LineFault> {
-    let mut text = reading_text(alloc, at, read)?;
-    if let Some(refusal) = refused(answer)? {
-        write_refusal(&mut text, alloc, refusal)?;
-        return Ok(text);
-    }
-    let written = written(alloc, read)?;
-    write_same(&mut text, written.as_slice(), bytes)?;
-    Ok(text)
-}
-
-/// `ptl SUBLAYER,0 BYTES`: profile, tier and level up to this sublayer.
-pub(crate) fn answer_ptl(alloc: Global, words: &[&str]) -> Result<String, LineFault> {
-    let [up_to, bytes] = words else {
-        return Err(LineFault::Words);
-    };
-    let up_to = named_sublayers(alloc, up_to)?;
-    let bytes = LineBytes::parse(alloc, bytes)?;
-    let mut bits = BitReader::new(bytes.as_slice());
-    let mut read = Fields::new(alloc);
-    let answer = read_ptl(&mut bits, up_to.max, &mut read);
-    levels_text(alloc, bits.at(), &read, answer, bytes.as_slice())
-}
-
-/// `dpb SUBLAYER,EACH BYTES`: DPB parameters up to this sublayer, of each or of it alone.
-pub(crate) fn answer_dpb(alloc: Global, words: &[&str]) -> Result<String, LineFault> {
-    let [up_to, bytes] = words else {
-        return Err(LineFault::Words);
-    };
-    let up_to = named_sublayers(alloc, up_to)?;
-    let bytes = LineBytes::parse(alloc, bytes)?;
-    let mut bits = BitReader::new(bytes.as_slice());
-    let mut read = Fields::new(alloc);
-    let answer = read_dpb(&mut bits, up_to.max, up_to.each, &mut read);
-    levels_text(alloc, bits.at(), &read, answer, bytes.as_slice())
-}
-
 /// Reads general timing, and sublayer timing behind it.
 fn read_both(
     bits: &mut BitReader<'_>,
@@ -99,21 +66,68 @@ fn read_both(
     read_sublayer_timing(bits, up_to.max, up_to.each, read)
 }
 
-/// `timing SUBLAYER,EACH BYTES`: general timing, and sublayer timing up to this sublayer, of each or of it alone.
-pub(crate) fn answer_timing(alloc: Global, words: &[&str]) -> Result<String, LineFault> {
+/// Reads such structures.
+fn read(
+    asked: Asked,
+    bits: &mut BitReader<'_>,
+    up_to: &Sublayers,
+    read: &mut Fields,
+) -> Result<(), ReadError> {
+    match asked {
+        Asked::Ptl => read_ptl(bits, up_to.max, read),
+        Asked::Dpb => read_dpb(bits, up_to.max, up_to.each, read),
+        Asked::Timing => read_both(bits, up_to, read),
+    }
+}
+
+/// Appends items that were read of bytes up to a place, and what is written of them.
+fn write_told(
+    text: &mut String,
+    alloc: Global,
+    at: u32,
+    items: &Fields,
+    bytes: &[u8],
+) -> Result<(), LineFault> {
+    write_reading(text, at, items)?;
+    let written = written(alloc, items)?;
+    Ok(write_same(text, written.as_slice(), bytes)?)
+}
+
+/// Appends what is read of bytes, and what is written of it.
+fn write_read(
+    text: &mut String,
+    alloc: Global,
+    asked: Asked,
+    up_to: &Sublayers,
+    bytes: &LineBytes,
+) -> Result<(), LineFault> {
+    let mut bits = BitReader::new(bytes.as_slice());
+    let mut items = Fields::new(alloc);
+    match read(asked, &mut bits, up_to, &mut items) {
+        Ok(()) => write_told(text, alloc, bits.at(), &items, bytes.as_slice()),
+        Err(error) => write_refused(text, bits.at(), &items, error),
+    }
+}
+
+/// - `ptl SUBLAYER,0 BYTES`: profile, tier and level up to this sublayer.
+/// - `dpb SUBLAYER,EACH BYTES`: DPB parameters up to this sublayer, of each or of it alone.
+/// - `timing SUBLAYER,EACH BYTES`: general timing, and sublayer timing up to this sublayer, of each or of it alone.
+pub(crate) fn answer_asked(
+    text: &mut String,
+    alloc: Global,
+    asked: Asked,
+    words: &[&str],
+) -> Result<(), LineFault> {
     let [up_to, bytes] = words else {
         return Err(LineFault::Words);
     };
     let up_to = named_sublayers(alloc, up_to)?;
     let bytes = LineBytes::parse(alloc, bytes)?;
-    let mut bits = BitReader::new(bytes.as_slice());
-    let mut read = Fields::new(alloc);
-    let answer = read_both(&mut bits, &up_to, &mut read);
-    levels_text(alloc, bits.at(), &read, answer, bytes.as_slice())
+    write_read(text, alloc, asked, &up_to, &bytes)
 }
 
 /// `levels`: whether each of these tables keeps no field.
-pub(crate) fn answer_levels(alloc: Global) -> Result<String, LineFault> {
+pub(crate) fn answer_levels(text: &mut String) -> Result<(), LineFault> {
     let (vps, ptl, dpb) = (
         keeps_only(&VPS, &[], &[]),
         keeps_only(&PTL, &[], &[]),
@@ -123,7 +137,9 @@ pub(crate) fn answer_levels(alloc: Global) -> Result<String, LineFault> {
         keeps_only(&TIMING, &[], &[]),
         keeps_only(&SUBLAYER_TIMING, &[], &[]),
     );
-    Ok(format!(in alloc;
+    write!(
+        text,
         "vps={vps} ptl={ptl} dpb={dpb} timing={timing} sublayer_timing={sublayer}"
-    )?)
+    )?;
+    Ok(())
 }

@@ -51,25 +51,27 @@ impl LineBytes {
     }
 }
 
+/// The bytes that several words name.
+fn all_bytes(alloc: Global, words: &str) -> Result<Vec<LineBytes>, LineFault> {
+    let mut all = Vec::new(alloc);
+    for digits in words.split(' ') {
+        let bytes = LineBytes::parse(alloc, digits)?;
+        all.push(bytes).map_err(AllocError::from)?;
+    }
+    Ok(all)
+}
+
 /// What a line asks about.
 #[derive(Drop)]
 pub(crate) enum Line {
-    /// The RBSP of a video parameter set.
-    Vps(LineBytes),
-    /// The RBSP of a sequence parameter set.
-    Sps(LineBytes),
-    /// The RBSP of a picture parameter set.
-    Pps(LineBytes),
-    /// The RBSP of an adaptation parameter set.
-    Aps(LineBytes),
     /// Here a stream begins, of this number.
     Stream(u32),
-    /// The next NAL unit of the stream.
-    Unit(LineBytes),
     /// The pictures of the stream.
     Pictures,
-    /// More of sets and headers.
-    Question(Box<Question>),
+    /// A slice header by itself, of a unit of this type.
+    Slice(u8, LineBytes),
+    /// Sets, headers or units of these bytes.
+    Bytes(Question, Vec<LineBytes>),
 }
 
 impl Line {
@@ -81,35 +83,17 @@ impl Line {
     pub(crate) fn parse(alloc: Global, line: &str) -> Result<Line, LineFault> {
         let (word, rest) = line.split_once(' ').unwrap_or((line, ""));
         match word {
-            "vps" => Ok(Line::Vps(LineBytes::parse(alloc, rest)?)),
-            "sps" => Ok(Line::Sps(LineBytes::parse(alloc, rest)?)),
-            "pps" => Ok(Line::Pps(LineBytes::parse(alloc, rest)?)),
-            "aps" => Ok(Line::Aps(LineBytes::parse(alloc, rest)?)),
-            "stream" => Ok(Line::Stream(number(rest)?)),
-            "unit" => Ok(Line::Unit(LineBytes::parse(alloc, rest)?)),
+            "stream" => Ok(Line::Stream(rest.parse::<u32>()?)),
             "pictures" => Ok(Line::Pictures),
-            _ => {
-                let question = Question::parse(alloc, word, rest)?;
-                Ok(Line::Question(boxed(alloc, question)?))
-            }
+            "slice" => Line::parse_slice(alloc, rest),
+            _ => Ok(Line::Bytes(Question::parse(word)?, all_bytes(alloc, rest)?)),
         }
     }
-}
 
-/// A question in memory of its own.
-fn boxed(alloc: Global, question: Question) -> Result<Box<Question>, AllocError> {
-    Ok(Box::new(alloc, question)?)
-}
-
-/// The first word, and what stands behind the blank that ends it.
-pub(crate) fn first_word(words: &str) -> Result<(&str, &str), LineFault> {
-    words.split_once(' ').ok_or(LineFault::Bytes)
-}
-
-/// A decimal number.
-fn number(digits: &str) -> Result<u32, LineFault> {
-    match digits.parse() {
-        Ok(number) => Ok(number),
-        Err(_) => Err(LineFault::Number),
+    /// A slice header, behind the type of its unit.
+    fn parse_slice(alloc: Global, words: &str) -> Result<Line, LineFault> {
+        let (nal_type, rbsp) = words.split_once(' ').ok_or(LineFault::Bytes)?;
+        let nal_type = nal_type.parse::<u8>()?;
+        Ok(Line::Slice(nal_type, LineBytes::parse(alloc, rbsp)?))
     }
 }

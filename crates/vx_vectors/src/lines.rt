@@ -2,21 +2,25 @@
 
 use crate::fault::LineFault;
 use crate::words::flag;
-use std::alloc::{AllocError, Global};
+use std::alloc::Global;
 use vx_annexb::NalHeader;
 use vx_bits::{BitCause, Refusal};
 use vx_report::{PictureNumbers, Where, picture_line, refusal_line, unit_line};
 
-/// A line as text, its line feed too.
-fn line_text(line: Vec<u8>) -> Result<String, LineFault> {
-    match String::from_utf8(line) {
-        Ok(text) => Ok(text),
+/// Appends a line, its line feed too.
+fn write_line(text: &mut String, line: &[u8]) -> Result<(), LineFault> {
+    match str::from_utf8(line) {
+        Ok(line) => Ok(text.push_str(line)?),
         Err(_) => Err(LineFault::Bytes),
     }
 }
 
 /// `unit-line TYPE TID OFFSET BYTES`: the line of a unit, whose reserved bit is 1, and whose layer is 63.
-pub(crate) fn answer_unit_line(alloc: Global, words: &[&str]) -> Result<String, LineFault> {
+pub(crate) fn answer_unit_line(
+    text: &mut String,
+    alloc: Global,
+    words: &[&str],
+) -> Result<(), LineFault> {
     let [nal_type, temporal_id, offset, bytes] = words else {
         return Err(LineFault::Words);
     };
@@ -27,11 +31,15 @@ pub(crate) fn answer_unit_line(alloc: Global, words: &[&str]) -> Result<String, 
         temporal_id: temporal_id.parse::<u8>()?,
     };
     let (offset, bytes) = (offset.parse::<u64>()?, bytes.parse::<u64>()?);
-    line_text(unit_line(alloc, header, offset, bytes)?)
+    write_line(text, &unit_line(alloc, header, offset, bytes)?)
 }
 
 /// `picture-line PICTURE CLVSS POC SLICES SUBPICTURES`: the line of a picture.
-pub(crate) fn answer_picture_line(alloc: Global, words: &[&str]) -> Result<String, LineFault> {
+pub(crate) fn answer_picture_line(
+    text: &mut String,
+    alloc: Global,
+    words: &[&str],
+) -> Result<(), LineFault> {
     let [picture, clvss, poc, slices, subpictures] = words else {
         return Err(LineFault::Words);
     };
@@ -42,7 +50,7 @@ pub(crate) fn answer_picture_line(alloc: Global, words: &[&str]) -> Result<Strin
         slices: slices.parse::<u32>()?,
         subpictures: subpictures.parse::<u32>()?,
     };
-    line_text(picture_line(alloc, numbers)?)
+    write_line(text, &picture_line(alloc, numbers)?)
 }
 
 /// A cause by its name.
@@ -123,7 +131,11 @@ fn refusal(letter: &str, words: &[&str]) -> Result<Refusal, LineFault> {
 }
 
 /// `refusal-line SOURCE UNIT PICTURE WRITTEN LETTER ..`: the line of a refusal at this place.
-pub(crate) fn answer_refusal_line(alloc: Global, words: &[&str]) -> Result<String, LineFault> {
+pub(crate) fn answer_refusal_line(
+    text: &mut String,
+    alloc: Global,
+    words: &[&str],
+) -> Result<(), LineFault> {
     let [source, unit, picture, written, letter, words @ ..] = words else {
         return Err(LineFault::Words);
     };
@@ -134,5 +146,5 @@ pub(crate) fn answer_refusal_line(alloc: Global, words: &[&str]) -> Result<Strin
         written: flag(written)?,
     };
     let refusal = refusal(letter, words)?;
-    line_text(refusal_line(alloc, refusal, place)?)
+    write_line(text, &refusal_line(alloc, refusal, place)?)
 }

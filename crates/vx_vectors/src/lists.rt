@@ -4,11 +4,11 @@ ghost use Rattle.std.specs.Prelude.{◌≤◌, IfOk};
 use crate::fault::LineFault;
 use crate::inputs::write_list;
 use crate::line::LineBytes;
-use crate::meaning::write_structures;
+use crate::meaning::write_table;
 use crate::text::{write_bytes, write_same};
-use crate::words::{flag, items, numbers, reading_text, refused, write_refusal};
+use crate::words::{flag, items, numbers, write_reading, write_refused};
 use std::alloc::{AllocError, Global};
-use vx_bits::{BitReader, BitWriter, Fields, ReadError, Refusal};
+use vx_bits::{BitReader, BitWriter, Fields};
 use vx_fields::names::rpl::{ENTRIES_0, ENTRIES_1};
 use vx_rpl::{
     RefLists, RplNumbers, RplTable, WeightNumbers, code_lists, read_lists, read_struct,
@@ -37,13 +37,18 @@ fn rpl_numbers(alloc: Global, word: &str) -> Result<RplNumbers, LineFault>
 }
 
 /// The structures of both lists, as items tell them.
-fn table(alloc: Global, numbers: &RplNumbers, word: &str) -> Result<RplTable, LineFault> {
+fn table(alloc: Global, numbers: &RplNumbers, word: &str) -> Result<Box<RplTable>, LineFault> {
     let items = items(alloc, word)?;
-    Ok(RplTable::new(alloc, numbers, &items, 0, items.len())?)
+    let table = RplTable::new(alloc, numbers, &items, 0, items.len())?;
+    Ok(Box::new(alloc, table).map_err(AllocError::from)?)
 }
 
 /// `structures WEIGHTED ITEMS`: the structures of list 0 and of list 1 that items of an SPS tell.
-pub(crate) fn answer_structures(alloc: Global, words: &[&str]) -> Result<String, LineFault> {
+pub(crate) fn answer_structures(
+    text: &mut String,
+    alloc: Global,
+    words: &[&str],
+) -> Result<(), LineFault> {
     let [weighted, items] = words else {
         return Err(LineFault::Words);
     };
@@ -54,32 +59,50 @@ pub(crate) fn answer_structures(alloc: Global, words: &[&str]) -> Result<String,
         rpl1_idx_present: true,
     };
     let table = table(alloc, &numbers, items)?;
-    let mut text = String::new(alloc);
-    write_structures(&mut text, &table.first)?;
-    text.push_str("|")?;
-    write_structures(&mut text, &table.second)?;
-    Ok(text)
+    write_table(text, &table)
+}
+
+/// The index of a structure, and how many there are.
+fn place(alloc: Global, word: &str) -> Result<(u32, u32), LineFault> {
+    let numbers = numbers(alloc, word)?;
+    match numbers.as_slice() {
+        [index, count] => Ok((*index, *count)),
+        _ => Err(LineFault::Words),
+    }
+}
+
+/// Appends what is read of a structure at a place.
+fn write_structure(
+    text: &mut String,
+    alloc: Global,
+    in_force: &RplNumbers,
+    place: (u32, u32),
+    bytes: &LineBytes,
+) -> Result<(), LineFault>
+    requires { (4 ≤ in_force.now.lsb_bits) × (in_force.now.lsb_bits ≤ 16) }
+{
+    let (index, count) = place;
+    let mut bits = BitReader::new(bytes.as_slice());
+    let mut read = Fields::new(alloc);
+    match read_struct(&mut bits, in_force, index, count, &mut read) {
+        Ok(()) => write_reading(text, bits.at(), &read),
+        Err(error) => write_refused(text, bits.at(), &read, error),
+    }
 }
 
 /// `structure NUMBERS INDEX,COUNT BYTES`: what is read of structure INDEX of COUNT of an SPS, or of one in a header.
-pub(crate) fn answer_structure(alloc: Global, words: &[&str]) -> Result<String, LineFault> {
-    let [in_force, place, bytes] = words else {
+pub(crate) fn answer_structure(
+    text: &mut String,
+    alloc: Global,
+    words: &[&str],
+) -> Result<(), LineFault> {
+    let [in_force, at, bytes] = words else {
         return Err(LineFault::Words);
     };
-    let place = numbers(alloc, place)?;
-    let [index, count] = place.as_slice() else {
-        return Err(LineFault::Words);
-    };
+    let place = place(alloc, at)?;
     let in_force = rpl_numbers(alloc, in_force)?;
     let bytes = LineBytes::parse(alloc, bytes)?;
-    let mut bits = BitReader::new(bytes.as_slice());
-    let mut gained = Fields::new(alloc);
-    let answer = read_struct(&mut bits, &in_force, *index, *count, &mut gained);
-    let mut text = reading_text(alloc, bits.at(), &gained)?;
-    if let Some(refusal) = refused(answer)? {
-        write_refusal(&mut text, alloc, refusal)?;
-    }
-    Ok(text)
+    write_structure(text, alloc, &in_force, place, &bytes)
 }
 
 /// The bytes of what was written, with a one and zeros behind it; none where the items weren't those of a value.
@@ -92,32 +115,42 @@ fn closed(spelled: Result<(), SpellError>, bits: BitWriter) -> Result<Option<Vec
 }
 
 /// Appends whether what was written is this.
-fn write_again(
-    text: &mut String,
-    written: Option<&Vec<u8>>,
-    read: &[u8],
-) -> Result<(), AllocError> {
+fn write_again(text: &mut String, written: Option<&Vec<u8>>, read: &[u8]) -> Result<(), LineFault> {
     match written {
-        Some(written) => write_same(text, written.as_slice(), read),
-        None => text.push_str(" | no value"),
+        Some(written) => Ok(write_same(text, written.as_slice(), read)?),
+        None => Ok(text.push_str(" | no value")?),
+    }
+}
+
+/// Appends the bytes of a structure of these items.
+fn write_spelled(
+    text: &mut String,
+    alloc: Global,
+    in_force: &RplNumbers,
+    told: &Fields,
+) -> Result<(), LineFault>
+    requires { (4 ≤ in_force.now.lsb_bits) × (in_force.now.lsb_bits ≤ 16) }
+{
+    let mut bits = BitWriter::new(alloc);
+    let spelled = write_struct(&mut bits, told, 0, told.len(), in_force);
+    match closed(spelled, bits)? {
+        Some(bytes) => Ok(write_bytes(text, bytes.as_slice())?),
+        None => Ok(text.push_str("no value")?),
     }
 }
 
 /// `spell NUMBERS ITEMS`: the bits of a structure of these items.
-pub(crate) fn answer_spell(alloc: Global, words: &[&str]) -> Result<String, LineFault> {
+pub(crate) fn answer_spell(
+    text: &mut String,
+    alloc: Global,
+    words: &[&str],
+) -> Result<(), LineFault> {
     let [in_force, told] = words else {
         return Err(LineFault::Words);
     };
     let in_force = rpl_numbers(alloc, in_force)?;
     let told = items(alloc, told)?;
-    let mut bits = BitWriter::new(alloc);
-    let spelled = write_struct(&mut bits, &told, 0, told.len(), &in_force);
-    let mut text = String::new(alloc);
-    match closed(spelled, bits)? {
-        Some(bytes) => write_bytes(&mut text, bytes.as_slice())?,
-        None => text.push_str("no value")?,
-    }
-    Ok(text)
+    write_spelled(text, alloc, &in_force, &told)
 }
 
 /// Appends the entries of both lists.
@@ -128,18 +161,21 @@ fn write_lists_read(text: &mut String, lists: &RefLists) -> Result<(), AllocErro
     write_list(text, &lists.second)
 }
 
-/// How many entries of list 0 and of list 1 a walk over lists counts.
-fn entries_walked(
+/// Appends how many entries of list 0 and of list 1 a walk over lists counts.
+fn write_entries_walked(
+    text: &mut String,
     in_force: &RplNumbers,
     table: &RplTable,
     bytes: &LineBytes,
-) -> Result<(u32, u32), Refusal>
+) -> Result<(), LineFault>
     requires { (4 ≤ in_force.now.lsb_bits) × (in_force.now.lsb_bits ≤ 16) }
 {
     let mut scope = in_force.scope();
     let mut bits = BitReader::new(bytes.as_slice());
     code_lists(table, &mut scope, &mut bits, &mut ())?;
-    Ok((scope.latest(ENTRIES_0), scope.latest(ENTRIES_1)))
+    let (first, second) = (scope.latest(ENTRIES_0), scope.latest(ENTRIES_1));
+    write!(text, " | entries={first},{second}")?;
+    Ok(())
 }
 
 /// What is written of the items of lists.
@@ -169,45 +205,45 @@ fn write_lists_told(
     requires { (4 ≤ in_force.now.lsb_bits) × (in_force.now.lsb_bits ≤ 16) }
 {
     write_lists_read(text, lists)?;
-    let (first, second) = entries_walked(in_force, table, bytes)?;
-    write!(text, " | entries={first},{second}")?;
+    write_entries_walked(text, in_force, table, bytes)?;
     let written = lists_written(alloc, in_force, table, read)?;
-    write_again(text, written.as_ref(), bytes.as_slice())?;
-    Ok(())
+    write_again(text, written.as_ref(), bytes.as_slice())
 }
 
-/// What is read of lists, and what they come to.
-fn lists_text(
+/// Appends what is read of lists, and what they come to.
+fn write_lists_of(
+    text: &mut String,
     alloc: Global,
     in_force: &RplNumbers,
     table: &RplTable,
     bytes: &LineBytes,
-) -> Result<String, LineFault>
+) -> Result<(), LineFault>
     requires { (4 ≤ in_force.now.lsb_bits) × (in_force.now.lsb_bits ≤ 16) }
 {
     let mut bits = BitReader::new(bytes.as_slice());
     let mut read = Fields::new(alloc);
-    let answer = read_lists(alloc, &mut bits, in_force, table, &mut read);
-    let mut text = reading_text(alloc, bits.at(), &read)?;
-    match answer {
+    match read_lists(alloc, &mut bits, in_force, table, &mut read) {
         Ok(lists) => {
-            write_lists_told(&mut text, alloc, in_force, table, bytes, &read, &lists)?;
+            write_reading(text, bits.at(), &read)?;
+            write_lists_told(text, alloc, in_force, table, bytes, &read, &lists)
         }
-        Err(ReadError::Refused(refusal)) => write_refusal(&mut text, alloc, refusal)?,
-        Err(ReadError::Memory) => return Err(LineFault::Memory),
+        Err(error) => write_refused(text, bits.at(), &read, error),
     }
-    Ok(text)
 }
 
 /// `lists NUMBERS ITEMS BYTES`: what is read of the two lists of a header, under the structures that items of an SPS tell.
-pub(crate) fn answer_lists(alloc: Global, words: &[&str]) -> Result<String, LineFault> {
+pub(crate) fn answer_lists(
+    text: &mut String,
+    alloc: Global,
+    words: &[&str],
+) -> Result<(), LineFault> {
     let [in_force, structures, bytes] = words else {
         return Err(LineFault::Words);
     };
     let in_force = rpl_numbers(alloc, in_force)?;
     let table = table(alloc, &in_force, structures)?;
     let bytes = LineBytes::parse(alloc, bytes)?;
-    lists_text(alloc, &in_force, &table, &bytes)
+    write_lists_of(text, alloc, &in_force, &table, &bytes)
 }
 
 /// What the sets in force and the lists say to weights.
@@ -245,42 +281,45 @@ fn weights_written(
     closed(spelled, bits)
 }
 
-/// Appends what is written of weights, or what was refused.
+/// Appends the items of weights that were read up to a place, and what is written of them.
 fn write_weights_told(
     text: &mut String,
     alloc: Global,
-    answer: Result<(), ReadError>,
     numbers: &WeightNumbers,
+    at: u32,
     read: &Fields,
     bytes: &[u8],
 ) -> Result<(), LineFault> {
-    if let Some(refusal) = refused(answer)? {
-        return Ok(write_refusal(text, alloc, refusal)?);
-    }
+    write_reading(text, at, read)?;
     let written = weights_written(alloc, numbers, read)?;
-    Ok(write_again(text, written.as_ref(), bytes)?)
+    write_again(text, written.as_ref(), bytes)
 }
 
-/// What is read of weights, and what is written of it.
-fn weights_text(
+/// Appends what is read of weights, and what is written of it.
+fn write_weights_of(
+    text: &mut String,
     alloc: Global,
     numbers: &WeightNumbers,
     bytes: &LineBytes,
-) -> Result<String, LineFault> {
+) -> Result<(), LineFault> {
     let mut bits = BitReader::new(bytes.as_slice());
     let mut read = Fields::new(alloc);
-    let answer = read_weights(&mut bits, numbers, &mut read);
-    let mut text = reading_text(alloc, bits.at(), &read)?;
-    write_weights_told(&mut text, alloc, answer, numbers, &read, bytes.as_slice())?;
-    Ok(text)
+    match read_weights(&mut bits, numbers, &mut read) {
+        Ok(()) => write_weights_told(text, alloc, numbers, bits.at(), &read, bytes.as_slice()),
+        Err(error) => write_refused(text, bits.at(), &read, error),
+    }
 }
 
 /// `weights NUMBERS BYTES`: what is read of prediction weights, and what is written of it.
-pub(crate) fn answer_weights(alloc: Global, words: &[&str]) -> Result<String, LineFault> {
+pub(crate) fn answer_weights(
+    text: &mut String,
+    alloc: Global,
+    words: &[&str],
+) -> Result<(), LineFault> {
     let [numbers, bytes] = words else {
         return Err(LineFault::Words);
     };
     let numbers = weight_numbers(alloc, numbers)?;
     let bytes = LineBytes::parse(alloc, bytes)?;
-    weights_text(alloc, &numbers, &bytes)
+    write_weights_of(text, alloc, &numbers, &bytes)
 }

@@ -32,14 +32,14 @@ mod stream;
 mod text;
 mod words;
 
+use crate::alone::answer_slice_alone;
 use crate::calls::told_of_call;
 use crate::fault::{Fault, LineFault};
 use crate::line::Line;
 use crate::pictures::answer_pictures;
 use crate::question::answer_question;
-use crate::sets::{answer_aps, answer_pps, answer_sps, answer_vps};
 use crate::stream::Stream;
-use crate::text::refusal_text;
+use crate::text::write_refusal;
 use std::alloc::Global;
 use std::io::{self, BufRead, BufReader, BufWriter, Write};
 use std::process::ExitCode;
@@ -56,46 +56,98 @@ fn main(rt: HostRuntime) -> ExitCode {
 
 /// Answers the lines of the input.
 fn answer_lines(rt: &(impl Input + Print + AllocGlobal)) -> Result<(), Fault> {
-    let alloc = rt.alloc();
-    let mut answers = BufWriter::new(alloc, io::writer(rt))?;
-    let mut stream = Stream::new(alloc);
-    let mut number = 0u64;
-    for line in BufReader::new(alloc, rt.reader())?.lines(alloc) {
-        number = number.saturating_add(1);
-        match answer(alloc, &mut stream, line?.as_str()) {
-            Ok(text) => writeln!(answers, "{text}")?,
-            Err(fault) => return Err(Fault::Line { number, fault }),
-        }
-    }
+    let mut answers = BufWriter::new(rt.alloc(), io::writer(rt))?;
+    write_answers(&mut answers, rt)?;
     answers.flush()?;
     Ok(())
 }
 
-/// The answer to a line behind others, of which the stream tells.
-fn answer(alloc: Global, stream: &mut Stream, line: &str) -> Result<String, LineFault> {
-    if let Some(text) = told_of_call(alloc, line)? {
-        return Ok(text);
+/// Writes the answers to the lines of the input.
+fn write_answers(answers: &mut impl Write, rt: &(impl Input + AllocGlobal)) -> Result<(), Fault> {
+    let mut stream = Stream::new(rt.alloc());
+    answer_each(answers, rt, &mut stream)
+}
+
+/// Writes the answer to each line of the input, behind others, of which the stream tells.
+fn answer_each(
+    answers: &mut impl Write,
+    rt: &(impl Input + AllocGlobal),
+    stream: &mut Stream,
+) -> Result<(), Fault> {
+    let alloc = rt.alloc();
+    let mut number = 0u64;
+    for line in BufReader::new(alloc, rt.reader())?.lines(alloc) {
+        number = number.saturating_add(1);
+        answer_line(answers, alloc, stream, number, line?.as_str())?;
+    }
+    Ok(())
+}
+
+/// Writes the answer to the line of this number, behind others, of which the stream tells.
+fn answer_line(
+    answers: &mut impl Write,
+    alloc: Global,
+    stream: &mut Stream,
+    number: u64,
+    line: &str,
+) -> Result<(), Fault> {
+    let mut text = String::new(alloc);
+    match write_answer(&mut text, alloc, stream, line) {
+        Ok(()) => Ok(writeln!(answers, "{text}")?),
+        Err(fault) => Err(Fault::Line { number, fault }),
+    }
+}
+
+/// Appends the answer to a line.
+fn write_answer(
+    text: &mut String,
+    alloc: Global,
+    stream: &mut Stream,
+    line: &str,
+) -> Result<(), LineFault> {
+    if told_of_call(text, alloc, line)? {
+        return Ok(());
     }
     let line = Line::parse(alloc, line)?;
-    match told(alloc, stream, &line) {
-        Err(LineFault::Refused(refusal)) => Ok(refusal_text(alloc, refusal)?),
+    write_told(text, alloc, stream, &line)
+}
+
+/// Appends what is told of what a line asks about, or the refusal alone.
+fn write_told(
+    text: &mut String,
+    alloc: Global,
+    stream: &mut Stream,
+    line: &Line,
+) -> Result<(), LineFault> {
+    match tell(text, alloc, stream, line) {
+        Err(LineFault::Refused(refusal)) => {
+            text.clear();
+            Ok(write_refusal(text, refusal)?)
+        }
         answer => answer,
     }
 }
 
-/// What is told of what a line asks about.
-fn told(alloc: Global, stream: &mut Stream, line: &Line) -> Result<String, LineFault> {
+/// Appends what is told of what a line asks about.
+///
+/// # Errors
+///
+/// The first refusal, where some of the answer may stand before it; want of memory; where it can't be asked.
+fn tell(
+    text: &mut String,
+    alloc: Global,
+    stream: &mut Stream,
+    line: &Line,
+) -> Result<(), LineFault> {
     match line {
-        Line::Vps(rbsp) => Ok(answer_vps(alloc, rbsp.as_slice())?),
-        Line::Sps(rbsp) => Ok(answer_sps(alloc, rbsp.as_slice())?),
-        Line::Pps(rbsp) => Ok(answer_pps(alloc, rbsp.as_slice())?),
-        Line::Aps(rbsp) => Ok(answer_aps(alloc, rbsp.as_slice())?),
         Line::Stream(number) => {
             *stream = Stream::new(alloc);
-            Ok(format!(in alloc; "stream {number}")?)
+            Ok(write!(text, "stream {number}")?)
         }
-        Line::Unit(unit) => stream.answer_unit(alloc, unit.as_slice()),
-        Line::Pictures => answer_pictures(alloc, stream.bytes()),
-        Line::Question(question) => answer_question(alloc, stream, question),
+        Line::Pictures => answer_pictures(text, alloc, stream.bytes()),
+        Line::Slice(nal_type, rbsp) => {
+            answer_slice_alone(text, alloc, stream, *nal_type, rbsp.as_slice())
+        }
+        Line::Bytes(question, bytes) => answer_question(text, alloc, stream, *question, bytes),
     }
 }

@@ -1,10 +1,11 @@
 //! What sets tell beyond their items.
 
+use crate::fault::LineFault;
 use crate::text::{mark, write_bounds, write_entry, write_rects};
-use std::alloc::{AllocError, Global};
+use std::alloc::AllocError;
 use vx_layout::Rect;
 use vx_pps::Pps;
-use vx_rpl::{RefEntry, RefList, StructureList};
+use vx_rpl::{RefEntry, RefList, RplTable, StructureList};
 use vx_sps::Sps;
 
 /// Appends the entries of a structure; the bits of a long-term one may stand in headers.
@@ -20,7 +21,7 @@ fn write_entries(text: &mut String, list: &RefList, in_header: bool) -> Result<(
 }
 
 /// Appends the structures of a list.
-pub(crate) fn write_structures(text: &mut String, list: &StructureList) -> Result<(), AllocError> {
+fn write_structures(text: &mut String, list: &StructureList) -> Result<(), AllocError> {
     if list.len() == 0 {
         text.push_str("-")?;
     }
@@ -34,51 +35,59 @@ pub(crate) fn write_structures(text: &mut String, list: &StructureList) -> Resul
     Ok(())
 }
 
-/// Appends the rectangle of a subpicture.
-fn write_rect(text: &mut String, i: u32, rect: Rect) -> Result<(), AllocError> {
-    let Rect { x, y, w, h } = rect;
-    write!(text, "{}{x},{y},{w},{h}", mark(i as usize, ";"))
+/// Appends the structures of both lists.
+pub(crate) fn write_table(text: &mut String, table: &RplTable) -> Result<(), LineFault> {
+    write_structures(text, &table.first)?;
+    text.push_str("|")?;
+    Ok(write_structures(text, &table.second)?)
 }
 
-/// Appends a flag of a subpicture.
-fn write_flag(text: &mut String, i: u32, flag: bool) -> Result<(), AllocError> {
-    write!(text, "{}{}", mark(i as usize, ","), u8::from(flag))
-}
-
-/// Appends the subpictures of a set: their rectangles, and whether each is treated as a picture, and filtered across.
-fn write_subpictures(text: &mut String, alloc: Global, sps: &Sps) -> Result<(), AllocError> {
-    let mut rects = String::new(alloc);
-    let mut treated = String::new(alloc);
-    let mut filtered = String::new(alloc);
+/// Appends the rectangles of the subpictures of a set.
+fn write_subpictures(text: &mut String, sps: &Sps) -> Result<(), AllocError> {
     for i in 0..sps.subpics() {
-        write_rect(&mut rects, i, sps.rect(i))?;
-        write_flag(&mut treated, i, sps.treated(i))?;
-        write_flag(&mut filtered, i, sps.filtered(i))?;
+        let Rect { x, y, w, h } = sps.rect(i);
+        write!(text, "{}{x},{y},{w},{h}", mark(i as usize, ";"))?;
     }
-    write!(text, "rects={rects} treated={treated} filtered={filtered}")
+    Ok(())
+}
+
+/// Appends whether each subpicture is treated as a picture.
+fn write_treated(text: &mut String, sps: &Sps) -> Result<(), AllocError> {
+    for i in 0..sps.subpics() {
+        let treated = u8::from(sps.treated(i));
+        write!(text, "{}{treated}", mark(i as usize, ","))?;
+    }
+    Ok(())
+}
+
+/// Appends whether each subpicture is filtered across.
+fn write_filtered(text: &mut String, sps: &Sps) -> Result<(), AllocError> {
+    for i in 0..sps.subpics() {
+        let filtered = u8::from(sps.filtered(i));
+        write!(text, "{}{filtered}", mark(i as usize, ","))?;
+    }
+    Ok(())
 }
 
 /// Appends the picture of a sequence parameter set, and its subpictures.
-pub(crate) fn write_picture(text: &mut String, alloc: Global, sps: &Sps) -> Result<(), AllocError> {
+pub(crate) fn write_picture(text: &mut String, sps: &Sps) -> Result<(), AllocError> {
     let (width, height, ctb, count) = (sps.width(), sps.height(), sps.ctb(), sps.subpics());
     write!(
         text,
-        " | width={width} height={height} ctb={ctb} subpics={count} "
+        " | width={width} height={height} ctb={ctb} subpics={count} rects="
     )?;
-    write_subpictures(text, alloc, sps)
+    write_subpictures(text, sps)?;
+    text.push_str(" treated=")?;
+    write_treated(text, sps)?;
+    text.push_str(" filtered=")?;
+    write_filtered(text, sps)
 }
 
 /// Appends what a sequence parameter set tells: its picture, its subpictures, and its structures of reference picture lists.
-pub(crate) fn write_sps_meaning(
-    text: &mut String,
-    alloc: Global,
-    sps: &Sps,
-) -> Result<(), AllocError> {
-    write_picture(text, alloc, sps)?;
+pub(crate) fn write_sps_meaning(text: &mut String, sps: &Sps) -> Result<(), LineFault> {
+    write_picture(text, sps)?;
     text.push_str(" lists=")?;
-    write_structures(text, &sps.table().first)?;
-    text.push_str("|")?;
-    write_structures(text, &sps.table().second)
+    write_table(text, sps.table())
 }
 
 /// Appends the slices of a picture parameter set.

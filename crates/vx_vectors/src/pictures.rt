@@ -2,11 +2,12 @@
 ghost use Rattle.std.specs.Prelude.{◌<◌, length};
 
 use crate::fault::LineFault;
+use crate::feeds::new_feed;
 use crate::inputs::write_input;
 use std::alloc::{AllocError, Global};
 use vx_assemble::{Feed, Step};
 use vx_io::MemorySource;
-use vx_pic::{Picture, decoding_input};
+use vx_pic::{DecodingInput, Kind, Picture, decoding_input};
 
 /// A source of these bytes.
 fn source_of(alloc: Global, stream: &[u8]) -> Result<MemorySource, AllocError> {
@@ -14,21 +15,39 @@ fn source_of(alloc: Global, stream: &[u8]) -> Result<MemorySource, AllocError> {
     Ok(MemorySource::new(bytes, Vec::new(alloc), Vec::new(alloc)))
 }
 
-/// Appends what a picture is, with its number and that of the unit that completed it.
-fn write_kind(
+/// Appends what a picture is.
+fn write_kind(text: &mut String, kind: Kind) -> Result<(), AllocError> {
+    let (nal_type, tid, poc) = (kind.nal_type, kind.temporal_id, kind.poc);
+    let (clvss, after_eos) = (u8::from(kind.clvss), u8::from(kind.after_eos));
+    write!(
+        text,
+        " type={nal_type} tid={tid} clvss={clvss} after_eos={after_eos} poc={poc}"
+    )
+}
+
+/// Appends a line of a picture, with its number and that of the unit that completed it.
+fn write_head(
     text: &mut String,
     number: u64,
     unit: u64,
     picture: &Picture<'_>,
 ) -> Result<(), AllocError> {
-    let kind = picture.kind();
     write!(text, "picture {number} unit={unit}")?;
-    write!(text, " type={} tid={}", kind.nal_type, kind.temporal_id)?;
-    write!(text, " clvss={}", u8::from(kind.clvss))?;
-    write!(text, " after_eos={}", u8::from(kind.after_eos))?;
-    write!(text, " poc={}", kind.poc)?;
-    write!(text, " subpictures={}", picture.ids().len())?;
-    write!(text, " slices={}", picture.slice_count())
+    write_kind(text, picture.kind())?;
+    let (subpictures, slices) = (picture.ids().len(), picture.slice_count());
+    write!(text, " subpictures={subpictures} slices={slices}")
+}
+
+/// The decoding input of a slice of a picture, in memory of its own.
+fn input_of<'a>(
+    alloc: Global,
+    picture: &Picture<'a>,
+    i: u32,
+) -> Result<Box<DecodingInput<'a>>, AllocError>
+    requires { i < length picture.now.slices }
+{
+    let input = decoding_input(alloc, picture, i)?;
+    Ok(Box::new(alloc, input)?)
 }
 
 /// Appends a line of a slice of a picture.
@@ -41,7 +60,7 @@ fn write_slice(
     requires { i < length picture.now.slices }
 {
     let subpic = picture.slice(i).header.subpic;
-    let input = decoding_input(alloc, picture, i)?;
+    let input = input_of(alloc, picture, i)?;
     write_input(text, subpic, &input)
 }
 
@@ -62,7 +81,7 @@ fn write_picture(
     picture: &Picture<'_>,
 ) -> Result<(), AllocError> {
     text.push_str(if number == 0 { "" } else { "\n" })?;
-    write_kind(text, number, units.saturating_sub(1), picture)?;
+    write_head(text, number, units.saturating_sub(1), picture)?;
     write_slices(text, alloc, picture)
 }
 
@@ -98,15 +117,17 @@ fn write_pictures(
     Ok(())
 }
 
-/// The lines of the pictures of a stream.
+/// Appends lines of the pictures of a stream.
 ///
 /// # Errors
 ///
-/// The first rule that the stream breaks; want of memory.
-pub(crate) fn answer_pictures(alloc: Global, stream: &[u8]) -> Result<String, LineFault> {
+/// The first rule that the stream breaks, where lines of pictures before it may stand; want of memory.
+pub(crate) fn answer_pictures(
+    text: &mut String,
+    alloc: Global,
+    stream: &[u8],
+) -> Result<(), LineFault> {
     let mut source = source_of(alloc, stream)?;
-    let mut text = String::new(alloc);
-    let mut feed = Feed::new(alloc)?;
-    write_pictures(&mut text, alloc, &mut feed, &mut source)?;
-    Ok(text)
+    let mut feed = new_feed(alloc)?;
+    write_pictures(text, alloc, &mut feed, &mut source)
 }

@@ -1,123 +1,126 @@
-//! The lines that ask more of sets and headers than what they are read as.
-ghost use Rattle.std.specs.Prelude.{◌≤◌, ◌^◌, length};
+//! What lines ask of bytes.
+ghost use Rattle.std.specs.Prelude.{◌≤◌, length};
+ghost use Rattle.vx_bits.specs.Limits.{unit_limit};
 
-use crate::alone::{answer_header_alone, answer_slice_alone};
+use crate::alone::answer_header_alone;
 use crate::fault::LineFault;
 use crate::kept::{answer_kept, answer_numbers};
-use crate::line::{LineBytes, first_word};
-use crate::reshaped_line::ReshapedPh;
+use crate::line::LineBytes;
+use crate::reshaped_line::answer_header_like;
 use crate::reshaped_pps::answer_reshaped_pps;
 use crate::reshaped_sps::answer_reshaped_sps;
+use crate::sets::{answer_aps, answer_pps, answer_sps, answer_vps};
 use crate::stream::Stream;
 use std::alloc::Global;
 
-/// What a line asks about sets or headers.
-#[derive(Drop)]
+/// What a line asks of bytes.
+#[derive(Clone, Copy)]
 pub(crate) enum Question {
+    /// What is read of a video parameter set.
+    Vps,
+    /// What is read of a sequence parameter set.
+    Sps,
+    /// What is read of a picture parameter set.
+    Pps,
+    /// What is read of an adaptation parameter set.
+    Aps,
+    /// What the next NAL unit of the stream is.
+    Unit,
     /// The kept items of a PPS.
-    KeptPps(LineBytes),
+    KeptPps,
     /// The numbers of an SPS, which may be a large one.
-    SpsNumbers(LineBytes),
+    SpsNumbers,
     /// An SPS, rewritten so that it says what another one says.
-    ReshapedSps(LineBytes, LineBytes),
-    /// A PPS, rewritten so that it says what that of other sets says.
-    ReshapedPps {
-        /// The PPS.
-        source: LineBytes,
-        /// The SPS of the others.
-        sps: LineBytes,
-        /// Their PPS.
-        pps: LineBytes,
+    SpsLike,
+    /// A PPS, rewritten so that it says what that of other sets says, an SPS and a PPS.
+    PpsLike {
         /// Whether it is for a frame of several sources.
         merged: bool,
     },
     /// A picture header, rewritten so that it says what another one says.
-    ReshapedPh(ReshapedPh),
+    HeaderLike {
+        /// Whether it stands behind a first bit.
+        inside: bool,
+    },
     /// A picture header by itself.
-    Header(LineBytes),
-    /// A slice header by itself, of a unit of this type.
-    Slice(u8, LineBytes),
+    Header,
 }
 
 impl Question {
-    /// What a line asks that begins with a word and goes on so.
+    /// What a word asks.
     ///
     /// # Errors
     ///
-    /// Where the word isn't known, or something else follows than belongs to it.
-    pub(crate) fn parse(alloc: Global, word: &str, rest: &str) -> Result<Question, LineFault> {
+    /// Where it isn't known.
+    pub(crate) fn parse(word: &str) -> Result<Question, LineFault> {
         match word {
-            "pps-kept" => Ok(Question::KeptPps(LineBytes::parse(alloc, rest)?)),
-            "sps-numbers" => Ok(Question::SpsNumbers(LineBytes::parse(alloc, rest)?)),
-            "sps-like" => sps_like(alloc, rest),
-            "pps-region" => pps_like(alloc, rest, false),
-            "pps-frame" => pps_like(alloc, rest, true),
-            "header-like" => Ok(Question::ReshapedPh(ReshapedPh::parse(alloc, rest, false)?)),
-            "inside-like" => Ok(Question::ReshapedPh(ReshapedPh::parse(alloc, rest, true)?)),
-            "header" => Ok(Question::Header(LineBytes::parse(alloc, rest)?)),
-            "slice" => slice(alloc, rest),
+            "vps" => Ok(Question::Vps),
+            "sps" => Ok(Question::Sps),
+            "pps" => Ok(Question::Pps),
+            "aps" => Ok(Question::Aps),
+            "unit" => Ok(Question::Unit),
+            "pps-kept" => Ok(Question::KeptPps),
+            "sps-numbers" => Ok(Question::SpsNumbers),
+            "sps-like" => Ok(Question::SpsLike),
+            "pps-region" => Ok(Question::PpsLike { merged: false }),
+            "pps-frame" => Ok(Question::PpsLike { merged: true }),
+            "header-like" => Ok(Question::HeaderLike { inside: false }),
+            "inside-like" => Ok(Question::HeaderLike { inside: true }),
+            "header" => Ok(Question::Header),
             _ => Err(LineFault::Word),
         }
     }
 }
 
-/// An SPS that is rewritten, and the one that it is rewritten like.
-fn sps_like(alloc: Global, words: &str) -> Result<Question, LineFault> {
-    let (source, like) = first_word(words)?;
-    let source = LineBytes::parse(alloc, source)?;
-    Ok(Question::ReshapedSps(source, LineBytes::parse(alloc, like)?))
-}
-
-/// A PPS that is rewritten, and the sets that it is rewritten like.
-fn pps_like(alloc: Global, words: &str, merged: bool) -> Result<Question, LineFault> {
-    let (source, like) = first_word(words)?;
-    let (sps, pps) = first_word(like)?;
-    Ok(Question::ReshapedPps {
-        source: LineBytes::parse(alloc, source)?,
-        sps: LineBytes::parse(alloc, sps)?,
-        pps: LineBytes::parse(alloc, pps)?,
-        merged,
-    })
-}
-
-/// A slice header, behind the type of its unit.
-fn slice(alloc: Global, words: &str) -> Result<Question, LineFault> {
-    let (nal_type, rbsp) = first_word(words)?;
-    match nal_type.parse() {
-        Ok(nal_type) => Ok(Question::Slice(nal_type, LineBytes::parse(alloc, rbsp)?)),
-        Err(_) => Err(LineFault::Number),
-    }
-}
-
-/// The answer to a question behind the units of a stream.
+/// Appends the answer to what is asked of bytes behind the units of a stream.
 ///
 /// # Errors
 ///
-/// The first refusal; where no set can say what is asked, or one hasn't come; want of memory.
+/// The first refusal; where no set can say what is asked, or one hasn't come; where there are more or fewer bytes than it takes;
+/// want of memory.
 pub(crate) fn answer_question(
+    text: &mut String,
     alloc: Global,
-    stream: &Stream,
-    question: &Question,
-) -> Result<String, LineFault> {
-    match question {
-        Question::KeptPps(rbsp) => Ok(answer_kept(alloc, rbsp.as_slice())?),
-        Question::SpsNumbers(rbsp) => Ok(answer_numbers(alloc, rbsp.as_slice())?),
-        Question::ReshapedSps(source, like) => {
-            answer_reshaped_sps(alloc, source.as_slice(), like.as_slice())
+    stream: &mut Stream,
+    question: Question,
+    bytes: &[LineBytes],
+) -> Result<(), LineFault> {
+    match (question, bytes) {
+        (Question::Unit, [unit]) => stream.answer_unit(text, alloc, unit.as_slice()),
+        (Question::Header, [rbsp]) => answer_header_alone(text, alloc, stream, rbsp.as_slice()),
+        (Question::HeaderLike { inside }, bytes) => answer_header_like(text, alloc, bytes, inside),
+        (question, [rbsp]) => answer_set(text, alloc, question, rbsp.as_slice()),
+        (Question::SpsLike, [source, like]) => {
+            answer_reshaped_sps(text, alloc, source.as_slice(), like.as_slice())
         }
-        Question::ReshapedPps {
-            source,
-            sps,
-            pps,
-            merged,
-        } => {
+        (Question::PpsLike { merged }, [source, sps, pps]) => {
             let like = (sps.as_slice(), pps.as_slice());
-            answer_reshaped_pps(alloc, source.as_slice(), like, *merged)
+            answer_reshaped_pps(text, alloc, source.as_slice(), like, merged)
         }
-        Question::ReshapedPh(asked) => asked.answer(alloc),
-        Question::Header(rbsp) => answer_header_alone(alloc, stream, rbsp.as_slice()),
-        Question::Slice(nal_type, rbsp) => {
-            answer_slice_alone(alloc, stream, *nal_type, rbsp.as_slice())
-        }
+        _ => Err(LineFault::Bytes),
+    }
+}
+
+/// Appends the answer to what is asked of the RBSP of a set.
+///
+/// # Errors
+///
+/// The first refusal; where more bytes are needed; want of memory.
+fn answer_set(
+    text: &mut String,
+    alloc: Global,
+    question: Question,
+    rbsp: &[u8],
+) -> Result<(), LineFault>
+    requires { length rbsp.now ≤ unit_limit }
+{
+    match question {
+        Question::Vps => answer_vps(text, alloc, rbsp),
+        Question::Sps => answer_sps(text, alloc, rbsp),
+        Question::Pps => answer_pps(text, alloc, rbsp),
+        Question::Aps => answer_aps(text, alloc, rbsp),
+        Question::KeptPps => answer_kept(text, alloc, rbsp),
+        Question::SpsNumbers => answer_numbers(text, alloc, rbsp),
+        _ => Err(LineFault::Bytes),
     }
 }

@@ -1,83 +1,53 @@
-//! What a line has of a picture header that is rewritten.
-ghost use Rattle.std.specs.Prelude.{◌≤◌, ◌^◌, length};
+//! The bytes of a line about a picture header that is rewritten.
 
 use crate::fault::LineFault;
-use crate::line::{LineBytes, first_word};
-use crate::reshaped_ph::{Sets, answer_reshaped_ph};
+use crate::frame::Sets;
+use crate::line::LineBytes;
+use crate::reshaped_ph::answer_reshaped_ph;
 use crate::slices::behind_first;
 use std::alloc::Global;
-use vx_bits::{BitReader, ReadError};
+use vx_bits::BitReader;
 
-/// The RBSPs of two sets.
-#[derive(Drop)]
-struct SetBytes {
-    sps: LineBytes,
-    pps: LineBytes,
+/// The bits of a header, which may stand behind a first bit.
+fn bits_of(header: &LineBytes, inside: bool) -> BitReader<'_> {
+    let bytes = header.as_slice();
+    if inside && !bytes.is_empty() {
+        return behind_first(bytes);
+    }
+    BitReader::new(bytes)
 }
 
-impl SetBytes {
-    /// Those of the first two words, and what stands behind these.
-    fn parse(alloc: Global, words: &str) -> Result<(SetBytes, &str), LineFault> {
-        let (sps, words) = first_word(words)?;
-        let (pps, words) = first_word(words)?;
-        let sps = LineBytes::parse(alloc, sps)?;
-        let pps = LineBytes::parse(alloc, pps)?;
-        Ok((SetBytes { sps, pps }, words))
-    }
-
-    /// The sets.
-    fn read(&self, alloc: Global) -> Result<Sets, ReadError> {
-        Sets::read(alloc, self.sps.as_slice(), self.pps.as_slice())
-    }
+/// Appends what is written of a header that is read under a source's sets, and rewritten so that it says what a unit says under those
+/// of a frame, an SPS and a PPS.
+fn write_for_frame(
+    text: &mut String,
+    alloc: Global,
+    own: &Sets,
+    frame: (&LineBytes, &LineBytes),
+    bits: &mut BitReader<'_>,
+    like: &LineBytes,
+) -> Result<(), LineFault> {
+    let (sps, pps) = frame;
+    let frame = Sets::read(alloc, sps.as_slice(), pps.as_slice())?;
+    answer_reshaped_ph(text, alloc, own, &frame, bits, like.as_slice())
 }
 
-/// What is asked of a picture header.
-#[derive(Drop)]
-pub(crate) struct ReshapedPh {
-    own: SetBytes,
-    frame: SetBytes,
-    header: LineBytes,
+/// Appends what is written of a header that is rewritten: the bytes are those of the two sets that it is read under, of those of a
+/// frame, of the header, which may stand behind a first bit, and of the unit that says what it is to say.
+///
+/// # Errors
+///
+/// The first refusal; where there are more bytes or fewer; where no header can say what is asked; want of memory.
+pub(crate) fn answer_header_like(
+    text: &mut String,
+    alloc: Global,
+    bytes: &[LineBytes],
     inside: bool,
-    like: LineBytes,
-}
-
-impl ReshapedPh {
-    /// What is asked by words: the two sets that the header is read under, those of a frame, the header, which may stand behind a
-    /// first bit, and the unit that says what it is to say.
-    ///
-    /// # Errors
-    ///
-    /// Where there are fewer, or they are no bytes.
-    pub(crate) fn parse(alloc: Global, words: &str, inside: bool) -> Result<ReshapedPh, LineFault> {
-        let (own, words) = SetBytes::parse(alloc, words)?;
-        let (frame, words) = SetBytes::parse(alloc, words)?;
-        let (header, like) = first_word(words)?;
-        Ok(ReshapedPh {
-            own,
-            frame,
-            header: LineBytes::parse(alloc, header)?,
-            inside,
-            like: LineBytes::parse(alloc, like)?,
-        })
-    }
-
-    /// The bits of the header.
-    fn bits(&self) -> BitReader<'_> {
-        let bytes = self.header.as_slice();
-        if self.inside && !bytes.is_empty() {
-            return behind_first(bytes);
-        }
-        BitReader::new(bytes)
-    }
-
-    /// What is written of the header.
-    ///
-    /// # Errors
-    ///
-    /// The first refusal; where no header can say what is asked; want of memory.
-    pub(crate) fn answer(&self, alloc: Global) -> Result<String, LineFault> {
-        let own = self.own.read(alloc)?;
-        let frame = self.frame.read(alloc)?;
-        answer_reshaped_ph(alloc, &own, &frame, &mut self.bits(), self.like.as_slice())
-    }
+) -> Result<(), LineFault> {
+    let [sps, pps, frame_sps, frame_pps, header, like] = bytes else {
+        return Err(LineFault::Bytes);
+    };
+    let own = Sets::read(alloc, sps.as_slice(), pps.as_slice())?;
+    let frame = (frame_sps, frame_pps);
+    write_for_frame(text, alloc, &own, frame, &mut bits_of(header, inside), like)
 }

@@ -4,41 +4,22 @@ ghost use Rattle.std.specs.Bool.{OnTrue};
 ghost use Rattle.vx_bits.specs.Limits.{unit_limit};
 ghost use Rattle.vx_sps.specs.Set as sps_set;
 ghost use Rattle.vx_pps.specs.Pps as pps_set;
-ghost use Rattle.vx_ph.specs.Reshaped.{HaveSameKept, IsApart, IsShape};
+ghost use Rattle.vx_ph.specs.Reshaped.{GoesUnder, HaveSameKept, IsApart, IsShape};
 
 use crate::fault::LineFault;
-use crate::reshaped_sps::{reshaped_text, small};
+use crate::frame::Sets;
+use crate::reshaped_sps::{small, write_reshaped};
 use crate::stream::number;
 use std::alloc::{AllocError, Global};
-use vx_bits::{BitReader, Fields, ReadError};
+use vx_bits::{BitReader, Fields};
 use vx_fields::ph::{
     ph_chroma_residual_scale_flag, ph_explicit_scaling_list_enabled_flag, ph_lmcs_aps_id,
     ph_lmcs_enabled_flag, ph_pic_parameter_set_id, ph_scaling_list_aps_id,
 };
 use vx_fields::pps::{pps_alf_info_in_ph_flag, pps_qp_delta_info_in_ph_flag};
 use vx_ph::{LmcsShape, PhShape, PictureHeader, read_ph, read_ph_unit, reshape_ph, write_ph};
-use vx_pps::{Pps, keep_pps, read_pps};
-use vx_sps::{Sps, keep_sps, read_sps};
-
-/// The sets of a picture.
-#[derive(Drop)]
-pub(crate) struct Sets {
-    sps: Sps,
-    pps: Pps,
-}
-
-impl Sets {
-    /// Those of the RBSPs of an SPS and of a PPS.
-    pub(crate) fn read(alloc: Global, sps: &[u8], pps: &[u8]) -> Result<Sets, ReadError>
-        requires sps { length sps.now ≤ unit_limit }
-        requires pps { length pps.now ≤ unit_limit }
-    {
-        Ok(Sets {
-            sps: read_sps(alloc, sps)?,
-            pps: read_pps(alloc, pps)?,
-        })
-    }
-}
+use vx_pps::{Pps, keep_pps};
+use vx_sps::keep_sps;
 
 /// Whether two lists have the same items.
 fn are_same(a: &Fields, b: &Fields) -> bool
@@ -118,39 +99,77 @@ fn shape_of(header: &PictureHeader) -> Result<PhShape, LineFault> {
     })
 }
 
-/// The unit that is sent of the header that is read.
-fn sent(
+/// What a unit says under sets that isn't its source's.
+fn like_of(alloc: Global, like: &[u8], frame: &Sets) -> Result<PhShape, LineFault>
+    requires { length like.now ≤ unit_limit }
+{
+    let header = read_ph_unit(alloc, like, &frame.sps, &frame.pps)?;
+    shape_of(&header)
+}
+
+/// The unit that is sent of a header that was read.
+fn rewritten(
+    alloc: Global,
+    source: &PictureHeader,
+    shape: &PhShape,
+    frame: &Sets,
+) -> Result<Vec<u8>, AllocError>
+    requires shape { IsShape shape.now }
+    requires source { GoesUnder source.now frame.now.sps frame.now.pps }
+{
+    let header = reshape_ph(alloc, source, shape, &frame.sps, &frame.pps)?;
+    write_ph(alloc, &header, &frame.sps, &frame.pps)
+}
+
+/// Appends the unit that is sent of a header that was read.
+fn write_rewritten(
+    text: &mut String,
+    alloc: Global,
+    source: &PictureHeader,
+    shape: &PhShape,
+    frame: &Sets,
+) -> Result<(), LineFault>
+    requires shape { IsShape shape.now }
+    requires source { GoesUnder source.now frame.now.sps frame.now.pps }
+{
+    let unit = rewritten(alloc, source, shape, frame)?;
+    write_reshaped(text, unit.as_slice())
+}
+
+/// Appends the unit that is sent of the header that is read.
+fn write_sent(
+    text: &mut String,
     alloc: Global,
     own: &Sets,
     frame: &Sets,
     bits: &mut BitReader<'_>,
     shape: &PhShape,
-) -> Result<Vec<u8>, ReadError>
+) -> Result<(), LineFault>
     requires shape { IsShape shape.now }
     requires same { HaveSameKept own.now.sps own.now.pps frame.now.sps frame.now.pps }
     requires apart { IsApart frame.now.pps }
 {
     let source = read_ph(alloc, bits, &own.sps, &own.pps)?;
-    let header = reshape_ph(alloc, &source, shape, &frame.sps, &frame.pps)?;
-    Ok(write_ph(alloc, &header, &frame.sps, &frame.pps)?)
+    write_rewritten(text, alloc, &source, shape, frame)
 }
 
-/// What is written of the header that is read under a source's sets, and that is rewritten so that it says what a unit says under
-/// those of a frame.
+/// Appends what is written of the header that is read under a source's sets, and that is rewritten so that it says what a unit says
+/// under those of a frame.
 ///
 /// # Errors
 ///
 /// The first refusal; where it can't say that; want of memory.
 pub(crate) fn answer_reshaped_ph(
+    text: &mut String,
     alloc: Global,
     own: &Sets,
     frame: &Sets,
     bits: &mut BitReader<'_>,
     like: &[u8],
-) -> Result<String, LineFault>
+) -> Result<(), LineFault>
     requires { length like.now ≤ unit_limit }
 {
-    let shape = shape_of(&read_ph_unit(alloc, like, &frame.sps, &frame.pps)?)?;
+    let shape = like_of(alloc, like, frame)?;
     if !is_shape(&shape) {
         return Err(LineFault::Shape);
     }
@@ -160,6 +179,5 @@ pub(crate) fn answer_reshaped_ph(
     if !have_same_kept(alloc, own, frame)? {
         return Err(LineFault::Shape);
     }
-    let unit = sent(alloc, own, frame, bits, &shape)?;
-    Ok(reshaped_text(alloc, unit.as_slice())?)
+    write_sent(text, alloc, own, frame, bits, &shape)
 }

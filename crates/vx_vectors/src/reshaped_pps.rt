@@ -7,12 +7,11 @@ ghost use Rattle.vx_layout.specs.Bounds.{last};
 ghost use Rattle.vx_layout.specs.Layouts.{HasLayout};
 ghost use Rattle.vx_layout.specs.Shapes.{AreListable};
 ghost use Rattle.vx_pic.specs.PictureLayout.{AnswersLayout};
-ghost use Rattle.vx_pps.specs.Reshaped.{picture_of};
-ghost use Rattle.vx_pps.specs.Reshaped.{CanBeDivided, IsSize};
+ghost use Rattle.vx_pps.specs.Reshaped.{CanBeDivided, IsSize, picture_of, whole_flag};
 
 use crate::fault::LineFault;
-use crate::frame::{Frame, frame_of};
-use crate::reshaped_sps::{reshaped_text, small};
+use crate::frame::{Frame, Sets, frame_of};
+use crate::reshaped_sps::{small, write_reshaped};
 use std::alloc::Global;
 use vx_fields::pps::{
     pps_init_qp_minus26, pps_loop_filter_across_slices_enabled_flag,
@@ -21,7 +20,6 @@ use vx_fields::pps::{
 };
 use vx_layout::{Bounds, RectList, region_is_layout, region_is_listable};
 use vx_pps::{Pps, PpsShape, Tiles, read_pps, read_slices_are_listable, reshape_pps, write_pps};
-use vx_sps::{Sps, read_sps};
 
 /// Tiles and slices of a picture.
 #[derive(Drop)]
@@ -79,21 +77,39 @@ fn init_qp(pps: &Pps) -> Result<i32, LineFault> {
     i32::try_from(value).map_err(|_| LineFault::Shape)
 }
 
-/// What the PPS of others says, with these tiles and slices.
+/// The ids of a set, and the QP from which slices differ, less 26.
+#[derive(Clone, Copy)]
+struct SetNumbers {
+    id: u8,
+    sps_id: u8,
+    init_qp: i32,
+}
+
+/// Those of a set.
 ///
 /// # Errors
 ///
-/// Where no set can say it.
-fn shape_of(like: &Frame<'_>, division: Division, merged: bool) -> Result<PpsShape, LineFault>
-    ensures tiles { IfOk result (λ shape. shape.tiles ≡ division.tiles) }
-    ensures slices { IfOk result (λ shape. shape.slices ≡ division.slices) }
-    ensures merged { IfOk result (λ shape. shape.merged ≡ merged) }
+/// Where no set can have them.
+fn numbers_of(pps: &Pps) -> Result<SetNumbers, LineFault> {
+    let numbers = pps.scope();
+    Ok(SetNumbers {
+        id: small(numbers.latest(pps_pic_parameter_set_id))?,
+        sps_id: small(numbers.latest(pps_seq_parameter_set_id))?,
+        init_qp: init_qp(pps)?,
+    })
+}
+
+/// What the PPS of others says, whose numbers are these, with these tiles and slices.
+fn shape_of(like: &Frame<'_>, own: SetNumbers, division: Division, merged: bool) -> PpsShape
+    ensures tiles { result.tiles ≡ division.tiles }
+    ensures slices { result.slices ≡ division.slices }
+    ensures merged { result.merged ≡ merged }
 {
     let pps = like.pps;
     let numbers = pps.scope();
-    Ok(PpsShape {
-        id: small(numbers.latest(pps_pic_parameter_set_id))?,
-        sps_id: small(numbers.latest(pps_seq_parameter_set_id))?,
+    PpsShape {
+        id: own.id,
+        sps_id: own.sps_id,
         width: pps.width(),
         height: pps.height(),
         ctb: like.sps.ctb(),
@@ -102,9 +118,9 @@ fn shape_of(like: &Frame<'_>, division: Division, merged: bool) -> Result<PpsSha
         slices: division.slices,
         across_tiles: numbers.latest(pps_loop_filter_across_tiles_enabled_flag) != 0,
         across_slices: numbers.latest(pps_loop_filter_across_slices_enabled_flag) != 0,
-        init_qp: init_qp(pps)?,
+        init_qp: own.init_qp,
         merged,
-    })
+    }
 }
 
 /// Whether a picture can be so wide or high, in luma samples.
@@ -166,6 +182,20 @@ fn can_be_divided(shape: &PpsShape) -> bool
         && ends_at(&shape.tiles.rows, shape.height, ctb)
 }
 
+/// The set of a shape, where it can have the numbers of that.
+///
+/// # Errors
+///
+/// Where it can't; want of memory.
+fn reshaped(alloc: Global, source: &Pps, shape: &PpsShape) -> Result<Pps, LineFault>
+    requires { whole_flag source.now shape.now ≡ 0 → CanBeDivided shape.now }
+{
+    if !has_numbers(shape) {
+        return Err(LineFault::Shape);
+    }
+    Ok(reshape_pps(alloc, source, shape)?)
+}
+
 /// The set that says what a partitioned one says.
 ///
 /// # Errors
@@ -179,15 +209,13 @@ fn divided_like(
 ) -> Result<Pps, LineFault>
     requires { AnswersLayout like.now.sps.now like.now.pps.now (Ok like.now.layout) }
 {
+    let numbers = numbers_of(like.pps)?;
     let division = division_of(alloc, like)?;
-    let shape = shape_of(like, division, merged)?;
-    if !has_numbers(&shape) {
-        return Err(LineFault::Shape);
-    }
+    let shape = shape_of(like, numbers, division, merged);
     if !can_be_divided(&shape) {
         return Err(LineFault::Shape);
     }
-    Ok(reshape_pps(alloc, source, &shape)?)
+    reshaped(alloc, source, &shape)
 }
 
 /// The set that says what one says that isn't partitioned, and isn't itself. Nothing is asked of tiles and slices.
@@ -196,6 +224,10 @@ fn divided_like(
 ///
 /// Where it is partitioned, or can't say that; want of memory.
 fn whole_like(alloc: Global, source: &Pps, like: &Frame<'_>) -> Result<Pps, LineFault> {
+    if source.partitioned() {
+        return Err(LineFault::Shape);
+    }
+    let numbers = numbers_of(like.pps)?;
     let none = Division {
         tiles: Tiles {
             columns: Bounds::new(alloc),
@@ -203,83 +235,90 @@ fn whole_like(alloc: Global, source: &Pps, like: &Frame<'_>) -> Result<Pps, Line
         },
         slices: RectList::new(alloc),
     };
-    let shape = shape_of(like, none, false)?;
-    if source.partitioned() {
-        return Err(LineFault::Shape);
-    }
-    if !has_numbers(&shape) {
-        return Err(LineFault::Shape);
-    }
-    Ok(reshape_pps(alloc, source, &shape)?)
+    let shape = shape_of(like, numbers, none, false);
+    reshaped(alloc, source, &shape)
 }
 
-/// What is written of a set that says what the PPS of others says.
+/// The set that says what the PPS of others says.
 ///
 /// # Errors
 ///
 /// Where it can't say that; want of memory.
-fn written_like(
+fn set_like(alloc: Global, source: &Pps, like: &Frame<'_>, merged: bool) -> Result<Pps, LineFault>
+    requires { AnswersLayout like.now.sps.now like.now.pps.now (Ok like.now.layout) }
+{
+    if merged || like.pps.partitioned() {
+        return divided_like(alloc, source, like, merged);
+    }
+    whole_like(alloc, source, like)
+}
+
+/// Appends what is written of a set.
+fn write_set(text: &mut String, alloc: Global, set: &Pps) -> Result<(), LineFault> {
+    let bytes = write_pps(alloc, set)?;
+    write_reshaped(text, bytes.as_slice())
+}
+
+/// Appends what is written of the set that says what the PPS of others says.
+fn write_set_like(
+    text: &mut String,
     alloc: Global,
     source: &Pps,
     like: &Frame<'_>,
     merged: bool,
-) -> Result<Vec<u8>, LineFault>
+) -> Result<(), LineFault>
     requires { AnswersLayout like.now.sps.now like.now.pps.now (Ok like.now.layout) }
 {
-    let set = if merged || like.pps.partitioned() {
-        divided_like(alloc, source, like, merged)?
-    } else {
-        whole_like(alloc, source, like)?
-    };
-    Ok(write_pps(alloc, &set)?)
+    let set = set_like(alloc, source, like, merged)?;
+    write_set(text, alloc, &set)
 }
 
-/// What is written of the set of an RBSP that says what the PPS of others says.
-fn rewritten(
+/// The same, of the set of an RBSP.
+fn write_source(
+    text: &mut String,
     alloc: Global,
     source: &[u8],
     like: &Frame<'_>,
     merged: bool,
-) -> Result<Vec<u8>, LineFault>
+) -> Result<(), LineFault>
     requires few { length source.now ≤ unit_limit }
     requires layout { AnswersLayout like.now.sps.now like.now.pps.now (Ok like.now.layout) }
 {
     let source = read_pps(alloc, source)?;
-    written_like(alloc, &source, like, merged)
+    write_set_like(text, alloc, &source, like, merged)
 }
 
 /// The same, of these others.
-fn rewritten_like(
+fn write_like(
+    text: &mut String,
     alloc: Global,
     source: &[u8],
-    sps: &Sps,
-    pps: &Pps,
+    others: &Sets,
     merged: bool,
-) -> Result<Vec<u8>, LineFault>
+) -> Result<(), LineFault>
     requires { length source.now ≤ unit_limit }
 {
-    let like = frame_of(alloc, sps, pps)?;
-    rewritten(alloc, source, &like, merged)
+    let like = frame_of(alloc, &others.sps, &others.pps)?;
+    write_source(text, alloc, source, &like, merged)
 }
 
-/// What is written of a PPS that is rewritten so that it says what that of others says, which are an SPS and a PPS; for a frame of
-/// several sources, or for a region.
+/// Appends what is written of a PPS that is rewritten so that it says what that of others says, which are an SPS and a PPS; for a
+/// frame of several sources, or for a region.
 ///
 /// # Errors
 ///
 /// The first refusal, of the others before itself; where it can't say that; want of memory.
 pub(crate) fn answer_reshaped_pps(
+    text: &mut String,
     alloc: Global,
     source: &[u8],
     like: (&[u8], &[u8]),
     merged: bool,
-) -> Result<String, LineFault>
+) -> Result<(), LineFault>
     requires source { length source.now ≤ unit_limit }
     requires sps { length like.0.now ≤ unit_limit }
     requires pps { length like.1.now ≤ unit_limit }
 {
-    let sps = read_sps(alloc, like.0)?;
-    let pps = read_pps(alloc, like.1)?;
-    let written = rewritten_like(alloc, source, &sps, &pps, merged)?;
-    Ok(reshaped_text(alloc, written.as_slice())?)
+    let others = Sets::read(alloc, like.0, like.1)?;
+    write_like(text, alloc, source, &others, merged)
 }

@@ -5,6 +5,7 @@ ghost use Rattle.vx_bits.specs.Codes.{IsCodeNumber};
 ghost use Rattle.vx_bits.specs.Limits.{unit_limit};
 ghost use Rattle.vx_layout.specs.Borders.{Begins, Ends};
 ghost use Rattle.vx_sps.specs.Reshaped.{AreParts, IsPlan, IsShape, IsSize};
+ghost use Rattle.vx_sps.specs.Set.{ctb_size_of};
 
 use crate::fault::LineFault;
 use crate::text::write_bytes;
@@ -27,11 +28,10 @@ pub(crate) fn small(number: u32) -> Result<u8, LineFault> {
     u8::try_from(number).map_err(|_| LineFault::Shape)
 }
 
-/// The bytes of a set that was rewritten, as text.
-pub(crate) fn reshaped_text(alloc: Global, bytes: &[u8]) -> Result<String, AllocError> {
-    let mut text = String::from_str(alloc, "reshaped ")?;
-    write_bytes(&mut text, bytes)?;
-    Ok(text)
+/// Appends the bytes of what was rewritten.
+pub(crate) fn write_reshaped(text: &mut String, bytes: &[u8]) -> Result<(), LineFault> {
+    text.push_str("reshaped ")?;
+    Ok(write_bytes(text, bytes)?)
 }
 
 /// The subpictures of a set, in CTUs.
@@ -155,13 +155,26 @@ fn is_shape(shape: &SpsShape, ctb: u32) -> bool
     shape.id < 16 && sizes && codes && is_plan(columns, rows, &shape.subpics)
 }
 
-/// What is written of a set that is rewritten for a shape, where it can have that.
-fn written(alloc: Global, sps: &Sps, shape: &SpsShape) -> Result<Vec<u8>, LineFault> {
+/// The bytes of a set that is rewritten for a shape.
+fn rewritten(alloc: Global, sps: &Sps, shape: &SpsShape) -> Result<Vec<u8>, AllocError>
+    requires { IsShape (ctb_size_of sps.now) shape.now }
+{
+    let set = reshape_sps(alloc, sps, shape)?;
+    write_sps(alloc, &set)
+}
+
+/// Appends what is written of a set that is rewritten for a shape, where it can have that.
+fn write_rewritten(
+    text: &mut String,
+    alloc: Global,
+    sps: &Sps,
+    shape: &SpsShape,
+) -> Result<(), LineFault> {
     if !is_shape(shape, sps.ctb()) {
         return Err(LineFault::Shape);
     }
-    let reshaped = reshape_sps(alloc, sps, shape)?;
-    Ok(write_sps(alloc, &reshaped)?)
+    let bytes = rewritten(alloc, sps, shape)?;
+    write_reshaped(text, bytes.as_slice())
 }
 
 /// The shape in which a set says what that of an RBSP says.
@@ -172,28 +185,33 @@ fn like_of(alloc: Global, like: &[u8]) -> Result<SpsShape, LineFault>
     shape_of(alloc, &like)
 }
 
-/// What is written of the set of an RBSP that is rewritten for a shape.
-fn rewritten(alloc: Global, source: &[u8], shape: &SpsShape) -> Result<Vec<u8>, LineFault>
+/// Appends what is written of the set of an RBSP that is rewritten for a shape.
+fn write_source(
+    text: &mut String,
+    alloc: Global,
+    source: &[u8],
+    shape: &SpsShape,
+) -> Result<(), LineFault>
     requires { length source.now ≤ unit_limit }
 {
     let source = read_sps(alloc, source)?;
-    written(alloc, &source, shape)
+    write_rewritten(text, alloc, &source, shape)
 }
 
-/// What is written of an SPS that is rewritten so that it says what another one says.
+/// Appends what is written of an SPS that is rewritten so that it says what another one says.
 ///
 /// # Errors
 ///
 /// The first refusal, of what it is to say before itself; where it can't say that; want of memory.
 pub(crate) fn answer_reshaped_sps(
+    text: &mut String,
     alloc: Global,
     source: &[u8],
     like: &[u8],
-) -> Result<String, LineFault>
+) -> Result<(), LineFault>
     requires source { length source.now ≤ unit_limit }
     requires like { length like.now ≤ unit_limit }
 {
     let shape = like_of(alloc, like)?;
-    let written = rewritten(alloc, source, &shape)?;
-    Ok(reshaped_text(alloc, written.as_slice())?)
+    write_source(text, alloc, source, &shape)
 }

@@ -3,44 +3,48 @@ ghost use Rattle.std.specs.Prelude.{◌≤◌, length};
 ghost use Rattle.vx_bits.specs.Limits.{unit_limit};
 ghost use Rattle.vx_aps.specs.Aps.{IsValid};
 
+use crate::fault::LineFault;
 use crate::meaning::{write_pps_meaning, write_sps_meaning};
 use crate::text::{write_bytes, write_items, write_same};
 use std::alloc::{AllocError, Global};
 use vx_aps::{Aps, read_aps, write_aps};
-use vx_bits::{Fields, ReadError};
+use vx_bits::Fields;
 use vx_pps::{Pps, read_pps, write_pps};
 use vx_ptl::read_vps;
 use vx_sps::{Sps, read_sps, write_sps};
 
-/// The items of a set that is accepted.
-pub(crate) fn accepted(alloc: Global, fields: &Fields) -> Result<String, AllocError> {
-    let mut text = String::from_str(alloc, "ok")?;
-    write_items(&mut text, fields)?;
-    Ok(text)
+/// Appends the items of a set that is accepted.
+pub(crate) fn write_accepted(text: &mut String, fields: &Fields) -> Result<(), AllocError> {
+    text.push_str("ok")?;
+    write_items(text, fields)
 }
 
-/// What is read of a VPS.
-pub(crate) fn answer_vps(alloc: Global, rbsp: &[u8]) -> Result<String, ReadError>
+/// Appends what is read of a VPS.
+pub(crate) fn answer_vps(text: &mut String, alloc: Global, rbsp: &[u8]) -> Result<(), LineFault>
     requires { length rbsp.now ≤ unit_limit }
 {
     let items = read_vps(alloc, rbsp)?;
-    Ok(accepted(alloc, &items)?)
+    Ok(write_accepted(text, &items)?)
 }
 
-/// What is read of an SPS, what it tells, and what is written of it.
-pub(crate) fn answer_sps(alloc: Global, rbsp: &[u8]) -> Result<String, ReadError>
+/// Appends what is read of an SPS, what it tells, and what is written of it.
+pub(crate) fn answer_sps(text: &mut String, alloc: Global, rbsp: &[u8]) -> Result<(), LineFault>
     requires { length rbsp.now ≤ unit_limit }
 {
     let sps = read_sps(alloc, rbsp)?;
-    Ok(sps_text(alloc, &sps, rbsp)?)
+    write_sps_told(text, alloc, &sps, rbsp)
 }
 
-/// An SPS as text, what it tells, and what is written of it.
-fn sps_text(alloc: Global, sps: &Sps, rbsp: &[u8]) -> Result<String, AllocError> {
-    let mut text = accepted(alloc, sps.fields())?;
-    write_sps_meaning(&mut text, alloc, sps)?;
-    write_same_sps(&mut text, alloc, sps, rbsp)?;
-    Ok(text)
+/// Appends the items of an SPS, what it tells, and what is written of it.
+fn write_sps_told(
+    text: &mut String,
+    alloc: Global,
+    sps: &Sps,
+    rbsp: &[u8],
+) -> Result<(), LineFault> {
+    write_accepted(text, sps.fields())?;
+    write_sps_meaning(text, sps)?;
+    Ok(write_same_sps(text, alloc, sps, rbsp)?)
 }
 
 /// Appends whether what is written of an SPS is this RBSP.
@@ -54,20 +58,24 @@ pub(crate) fn write_same_sps(
     write_same(text, written.as_slice(), rbsp)
 }
 
-/// What is read of a PPS, what it tells, and what is written of it.
-pub(crate) fn answer_pps(alloc: Global, rbsp: &[u8]) -> Result<String, ReadError>
+/// Appends what is read of a PPS, what it tells, and what is written of it.
+pub(crate) fn answer_pps(text: &mut String, alloc: Global, rbsp: &[u8]) -> Result<(), LineFault>
     requires { length rbsp.now ≤ unit_limit }
 {
     let pps = read_pps(alloc, rbsp)?;
-    Ok(pps_text(alloc, &pps, rbsp)?)
+    write_pps_told(text, alloc, &pps, rbsp)
 }
 
-/// A PPS as text, what it tells, and what is written of it.
-fn pps_text(alloc: Global, pps: &Pps, rbsp: &[u8]) -> Result<String, AllocError> {
-    let mut text = accepted(alloc, pps.fields())?;
-    write_pps_meaning(&mut text, pps)?;
-    write_same_pps(&mut text, alloc, pps, rbsp)?;
-    Ok(text)
+/// Appends the items of a PPS, what it tells, and what is written of it.
+fn write_pps_told(
+    text: &mut String,
+    alloc: Global,
+    pps: &Pps,
+    rbsp: &[u8],
+) -> Result<(), LineFault> {
+    write_accepted(text, pps.fields())?;
+    write_pps_meaning(text, pps)?;
+    Ok(write_same_pps(text, alloc, pps, rbsp)?)
 }
 
 /// Appends whether what is written of a PPS is this RBSP.
@@ -81,22 +89,20 @@ pub(crate) fn write_same_pps(
     write_same(text, written.as_slice(), rbsp)
 }
 
-/// What is read of an APS, and what is written of it.
-pub(crate) fn answer_aps(alloc: Global, rbsp: &[u8]) -> Result<String, ReadError> {
+/// Appends what is read of an APS, and what is written of it.
+pub(crate) fn answer_aps(text: &mut String, alloc: Global, rbsp: &[u8]) -> Result<(), LineFault> {
     match read_aps(alloc, rbsp)? {
-        Some(aps) => Ok(aps_text(alloc, &aps, rbsp)?),
-        None => Ok(String::from_str(alloc, "none")?),
+        Some(aps) => write_aps_told(text, alloc, &aps, rbsp),
+        None => Ok(text.push_str("none")?),
     }
 }
 
-/// An APS as text, and what is written of it.
-fn aps_text(alloc: Global, aps: &Aps, rbsp: &[u8]) -> Result<String, AllocError>
+/// Appends an APS, and what is written of it.
+fn write_aps_told(text: &mut String, alloc: Global, aps: &Aps, rbsp: &[u8]) -> Result<(), LineFault>
     requires { IsValid aps.now }
 {
-    let mut text = String::new(alloc);
     write!(text, "ok 501={} 502={} body=", aps.kind, aps.id)?;
-    write_bytes(&mut text, aps.body.as_slice())?;
+    write_bytes(text, aps.body.as_slice())?;
     let written = write_aps(alloc, aps)?;
-    write_same(&mut text, written.as_slice(), rbsp)?;
-    Ok(text)
+    Ok(write_same(text, written.as_slice(), rbsp)?)
 }

@@ -1,12 +1,12 @@
 //! Answers to slice headers.
-ghost use Rattle.std.specs.Prelude.{◌≡◌, ◌*◌, ◌≤◌, true, false, [], length, drop};
+ghost use Rattle.std.specs.Prelude.{◌≡◌, ◌*◌, ◌≤◌, [], length, drop};
 ghost use Rattle.vx_bits.specs.Codes.{bits_of};
 ghost use Rattle.vx_bits.specs.Limits.{unit_limit};
 ghost use Rattle.vx_table.specs.Reading.{IsFound};
 ghost use Rattle.vx_ph.specs.Header.{header_form};
 ghost use Rattle.vx_ph.specs.InForce.{in_force, structures};
 ghost use Rattle.vx_sh.specs.InForce.{in_force_at};
-ghost use Rattle.vx_sh.specs.Value.{BeginsSlice};
+ghost use Rattle.vx_sh.specs.Value.{BeginsSlice, IsSliceOf};
 
 use crate::fault::LineFault;
 use crate::frame::Frame;
@@ -16,105 +16,112 @@ use vx_bits::BitReader;
 use vx_ph::{PictureHeader, read_ph};
 use vx_sh::{SliceHeader, SliceNumbers, read_can_be_written, read_sh, write_sh};
 
-/// What is read of a slice header that takes so many bytes.
-pub(crate) fn slice_text(
-    alloc: Global,
+/// Appends what is read of a slice header that takes so many bytes.
+pub(crate) fn write_slice(
+    text: &mut String,
     slice: &SliceHeader,
     size: usize,
-) -> Result<String, AllocError> {
-    let mut text = String::new(alloc);
+) -> Result<(), LineFault> {
     let (subpic, address) = (slice.subpic, slice.address);
     write!(
         text,
         "slice size={size} subpicture={subpic} address={address}"
     )?;
-    write_items(&mut text, &slice.fields)?;
-    Ok(text)
+    Ok(write_items(text, &slice.fields)?)
 }
 
-/// What is read of a slice header, and of the picture header where that stands inside, and whether these bytes, which are written
-/// of it, are those that it was read from.
-fn whole_text(
-    alloc: Global,
-    rbsp: &[u8],
-    slice: &SliceHeader,
-    inside: Option<&PictureHeader>,
-    written: &[u8],
-    size: usize,
-) -> Result<String, AllocError> {
-    let mut text = slice_text(alloc, slice, size)?;
-    if let Some(header) = inside {
-        text.push_str(" | header")?;
-        write_items(&mut text, &header.fields)?;
-    }
-    write_same(&mut text, written, rbsp.get(..size).unwrap_or(rbsp))?;
-    Ok(text)
-}
-
-/// The bytes of a slice header that was read, whose picture header stands apart.
-fn written_apart(
+/// Appends whether what is written of a slice header is the front of this RBSP that it was read from, which has so many bytes.
+fn write_again(
+    text: &mut String,
     alloc: Global,
     rbsp: &[u8],
     numbers: &SliceNumbers<'_>,
     slice: &SliceHeader,
     size: usize,
-) -> Result<Vec<u8>, AllocError>
-    requires read { BeginsSlice (in_force_at numbers.now) rbsp.now slice.now size }
-    requires apart { slice.now.inside ≡ false }
+) -> Result<(), AllocError>
+    requires slice { IsSliceOf (in_force_at numbers.now) slice.now.fields numbers.now.header.now.fields }
     requires few { length numbers.now.ids.now ≤ 1000 }
     requires one_each { length numbers.now.ids.now ≡ length numbers.now.layout.now.subpics }
 {
-    read_can_be_written();
-    write_sh(alloc, slice, numbers)
+    let written = write_sh(alloc, slice, numbers)?;
+    write_same(text, written.as_slice(), rbsp.get(..size).unwrap_or(rbsp))
 }
 
-/// The bytes of a slice header that was read, where the picture header of the numbers is the one that stands inside: the bits
-/// behind the first give it, and it ends here.
-fn written_inside(
+/// Appends a slice header, and what is written of it, where its picture header stands apart.
+fn write_apart(
+    text: &mut String,
+    alloc: Global,
+    rbsp: &[u8],
+    numbers: &SliceNumbers<'_>,
+    slice: &SliceHeader,
+    size: usize,
+) -> Result<(), LineFault>
+    requires read { BeginsSlice (in_force_at numbers.now) rbsp.now slice.now size }
+    requires few { length numbers.now.ids.now ≤ 1000 }
+    requires one_each { length numbers.now.ids.now ≡ length numbers.now.layout.now.subpics }
+{
+    if slice.inside {
+        return Err(LineFault::Missing);
+    }
+    read_can_be_written();
+    write_slice(text, slice, size)?;
+    Ok(write_again(text, alloc, rbsp, numbers, slice, size)?)
+}
+
+/// Appends a slice header, and what is written of it, where its picture header stands inside, and is the one of the numbers: the
+/// bits behind the first give it, and it ends here.
+fn write_inside(
+    text: &mut String,
     alloc: Global,
     rbsp: &[u8],
     numbers: &SliceNumbers<'_>,
     slice: &SliceHeader,
     size: usize,
     end: &BitReader<'_>,
-) -> Result<Vec<u8>, AllocError>
+) -> Result<(), LineFault>
     requires read { BeginsSlice (in_force_at numbers.now) rbsp.now slice.now size }
-    requires inside { slice.now.inside ≡ true }
     requires header { IsFound (header_form (structures numbers.now.sps.now) (in_force numbers.now.sps.now numbers.now.pps.now)) (record { total = 8 * length rbsp.now; left = drop 1 (bits_of rbsp.now) }) [] end.now numbers.now.header.now.fields }
     requires few { length numbers.now.ids.now ≤ 1000 }
     requires one_each { length numbers.now.ids.now ≡ length numbers.now.layout.now.subpics }
 {
+    if !slice.inside {
+        return Err(LineFault::Missing);
+    }
     read_can_be_written();
-    write_sh(alloc, slice, numbers)
+    write_slice(text, slice, size)?;
+    text.push_str(" | header")?;
+    write_items(text, &numbers.header.fields)?;
+    Ok(write_again(text, alloc, rbsp, numbers, slice, size)?)
 }
 
-/// What is read of a slice header under these numbers, and what is written of it, where its picture header stands apart.
-fn apart_text(alloc: Global, rbsp: &[u8], numbers: &SliceNumbers<'_>) -> Result<String, LineFault>
+/// Appends what is read of a slice header under these numbers, and what is written of it, where its picture header stands apart.
+fn read_apart(
+    text: &mut String,
+    alloc: Global,
+    rbsp: &[u8],
+    numbers: &SliceNumbers<'_>,
+) -> Result<(), LineFault>
     requires size { length rbsp.now ≤ unit_limit }
     requires few { length numbers.now.ids.now ≤ 1000 }
     requires one_each { length numbers.now.ids.now ≡ length numbers.now.layout.now.subpics }
 {
     let (slice, size) = read_sh(alloc, rbsp, numbers)?;
-    if slice.inside {
-        return Err(LineFault::Missing);
-    }
-    let written = written_apart(alloc, rbsp, numbers, &slice, size)?;
-    let text = whole_text(alloc, rbsp, &slice, None, written.as_slice(), size)?;
-    Ok(text)
+    write_apart(text, alloc, rbsp, numbers, &slice, size)
 }
 
-/// What is read of a slice header, and what is written of it, where its picture header stands apart.
+/// Appends what is read of a slice header, and what is written of it, where its picture header stands apart.
 ///
 /// # Errors
 ///
 /// The first refusal; want of memory; where a picture header stands inside.
 pub(crate) fn answer_apart(
+    text: &mut String,
     alloc: Global,
     nal_type: u8,
     rbsp: &[u8],
     frame: &Frame<'_>,
     header: &PictureHeader,
-) -> Result<String, LineFault>
+) -> Result<(), LineFault>
     requires { length rbsp.now ≤ unit_limit }
 {
     let numbers = SliceNumbers {
@@ -125,7 +132,7 @@ pub(crate) fn answer_apart(
         layout: &frame.layout,
         ids: &frame.ids,
     };
-    apart_text(alloc, rbsp, &numbers)
+    read_apart(text, alloc, rbsp, &numbers)
 }
 
 /// The bits behind the first of bytes.
@@ -140,40 +147,36 @@ pub(crate) fn behind_first(bytes: &[u8]) -> BitReader<'_>
     bits
 }
 
-/// What is read of a slice header under these numbers, and what is written of it, where the picture header of the numbers stands
-/// inside, and ends here.
-fn inside_text(
+/// Appends what is read of a slice header under these numbers, and what is written of it, where the picture header of the numbers
+/// stands inside, and ends here.
+fn read_inside(
+    text: &mut String,
     alloc: Global,
     rbsp: &[u8],
     numbers: &SliceNumbers<'_>,
     end: &BitReader<'_>,
-) -> Result<String, LineFault>
+) -> Result<(), LineFault>
     requires size { length rbsp.now ≤ unit_limit }
     requires header { IsFound (header_form (structures numbers.now.sps.now) (in_force numbers.now.sps.now numbers.now.pps.now)) (record { total = 8 * length rbsp.now; left = drop 1 (bits_of rbsp.now) }) [] end.now numbers.now.header.now.fields }
     requires few { length numbers.now.ids.now ≤ 1000 }
     requires one_each { length numbers.now.ids.now ≡ length numbers.now.layout.now.subpics }
 {
     let (slice, size) = read_sh(alloc, rbsp, numbers)?;
-    if !slice.inside {
-        return Err(LineFault::Missing);
-    }
-    let written = written_inside(alloc, rbsp, numbers, &slice, size, end)?;
-    let inside = Some(numbers.header);
-    let text = whole_text(alloc, rbsp, &slice, inside, written.as_slice(), size)?;
-    Ok(text)
+    write_inside(text, alloc, rbsp, numbers, &slice, size, end)
 }
 
-/// What is read of a slice header and of the picture header that stands inside, and what is written of both.
+/// Appends what is read of a slice header and of the picture header that stands inside, and what is written of both.
 ///
 /// # Errors
 ///
 /// The first refusal; want of memory; where no picture header stands inside.
 pub(crate) fn answer_inside(
+    text: &mut String,
     alloc: Global,
     nal_type: u8,
     rbsp: &[u8],
     frame: &Frame<'_>,
-) -> Result<String, LineFault>
+) -> Result<(), LineFault>
     requires few { length rbsp.now ≤ unit_limit }
     requires some { 1 ≤ length rbsp.now }
 {
@@ -187,5 +190,5 @@ pub(crate) fn answer_inside(
         layout: &frame.layout,
         ids: &frame.ids,
     };
-    inside_text(alloc, rbsp, &numbers, &bits)
+    read_inside(text, alloc, rbsp, &numbers, &bits)
 }

@@ -6,13 +6,12 @@ use crate::fault::LineFault;
 use crate::frame::{Frame, frame_of};
 use crate::headers::answer_header;
 use crate::line::LineBytes;
-use crate::sets::{answer_aps, answer_vps, write_same_pps, write_same_sps};
+use crate::sets::{answer_aps, answer_vps, write_accepted, write_same_pps, write_same_sps};
 use crate::slices::{answer_apart, answer_inside, behind_first};
-use crate::text::write_items;
 use std::alloc::{AllocError, Global};
 use std::collections::BTreeMap;
 use vx_annexb::{emulation_fault, read_header, unescape};
-use vx_bits::{BitReader, Fields, ReadError};
+use vx_bits::{BitReader, Fields};
 use vx_fields::ph::ph_pic_parameter_set_id;
 use vx_fields::pps::{pps_pic_parameter_set_id, pps_seq_parameter_set_id};
 use vx_fields::sps::sps_seq_parameter_set_id;
@@ -39,26 +38,16 @@ pub(crate) fn number(fields: &Fields, field: u16) -> u32 {
     natural(fields.first(field).unwrap_or(0))
 }
 
-/// An SPS of a stream as text, and what is written of it.
-fn sps_text(alloc: Global, sps: &Sps, rbsp: &[u8]) -> Result<String, AllocError> {
-    let mut text = String::from_str(alloc, "set ok")?;
-    write_items(&mut text, sps.fields())?;
-    write_same_sps(&mut text, alloc, sps, rbsp)?;
-    Ok(text)
+/// Appends an SPS of a stream, and what is written of it.
+fn write_sps(text: &mut String, alloc: Global, sps: &Sps, rbsp: &[u8]) -> Result<(), AllocError> {
+    write_accepted(text, sps.fields())?;
+    write_same_sps(text, alloc, sps, rbsp)
 }
 
-/// A PPS of a stream as text, and what is written of it.
-fn pps_text(alloc: Global, pps: &Pps, rbsp: &[u8]) -> Result<String, AllocError> {
-    let mut text = String::from_str(alloc, "set ok")?;
-    write_items(&mut text, pps.fields())?;
-    write_same_pps(&mut text, alloc, pps, rbsp)?;
-    Ok(text)
-}
-
-/// The answer to a set, as one to a unit.
-fn as_unit(alloc: Global, answer: Result<String, ReadError>) -> Result<String, LineFault> {
-    let answer = answer?;
-    Ok(format!(in alloc; "set {answer}")?)
+/// Appends a PPS of a stream, and what is written of it.
+fn write_pps(text: &mut String, alloc: Global, pps: &Pps, rbsp: &[u8]) -> Result<(), AllocError> {
+    write_accepted(text, pps.fields())?;
+    write_same_pps(text, alloc, pps, rbsp)
 }
 
 impl Stream {
@@ -79,63 +68,104 @@ impl Stream {
         self.bytes.as_slice()
     }
 
-    /// The answer to the next unit.
+    /// Appends the answer to the next unit.
     ///
     /// # Errors
     ///
     /// Where it is refused, or no NAL unit, or refers to a set that hasn't come; want of memory.
-    pub(crate) fn answer_unit(&mut self, alloc: Global, unit: &[u8]) -> Result<String, LineFault>
+    pub(crate) fn answer_unit(
+        &mut self,
+        text: &mut String,
+        alloc: Global,
+        unit: &[u8],
+    ) -> Result<(), LineFault>
         requires { length unit.now ≤ unit_limit }
     {
         self.bytes.extend_from_slice(&[0, 0, 1])?;
         self.bytes.extend_from_slice(unit)?;
         let header = read_header(unit).ok_or(LineFault::Unit)?;
         if header.reserved {
-            return Ok(String::from_str(alloc, "dropped")?);
+            return Ok(text.push_str("dropped")?);
         }
         if emulation_fault(unit).is_some() {
             return Err(LineFault::Unit);
         }
         let bytes = unescape(alloc, unit)?;
         let rbsp = bytes.as_slice().get(2..).unwrap_or(&[]);
-        self.answer_rbsp(alloc, header.nal_type, rbsp)
+        self.answer_rbsp(text, alloc, header.nal_type, rbsp)
     }
 
-    /// The answer to the RBSP of a unit of a type.
-    fn answer_rbsp(&mut self, alloc: Global, nal_type: u8, rbsp: &[u8]) -> Result<String, LineFault>
+    /// Appends the answer to the RBSP of a unit of a type.
+    fn answer_rbsp(
+        &mut self,
+        text: &mut String,
+        alloc: Global,
+        nal_type: u8,
+        rbsp: &[u8],
+    ) -> Result<(), LineFault>
         requires { length rbsp.now ≤ unit_limit }
     {
         match nal_type {
-            VPS_NUT => as_unit(alloc, answer_vps(alloc, rbsp)),
-            SPS_NUT => self.answer_sps(alloc, rbsp),
-            PPS_NUT => self.answer_pps(alloc, rbsp),
-            PREFIX_APS_NUT | SUFFIX_APS_NUT => as_unit(alloc, answer_aps(alloc, rbsp)),
-            PH_NUT => self.answer_header(alloc, rbsp),
-            TRAIL_NUT..=RASL_NUT | IDR_W_RADL..=GDR_NUT => self.answer_slice(alloc, nal_type, rbsp),
-            _ => Ok(String::from_str(alloc, "dropped")?),
+            VPS_NUT | SPS_NUT | PPS_NUT | PREFIX_APS_NUT | SUFFIX_APS_NUT => {
+                self.answer_set(text, alloc, nal_type, rbsp)
+            }
+            PH_NUT => self.answer_header(text, alloc, rbsp),
+            TRAIL_NUT..=RASL_NUT | IDR_W_RADL..=GDR_NUT => {
+                self.answer_slice(text, alloc, nal_type, rbsp)
+            }
+            _ => Ok(text.push_str("dropped")?),
         }
     }
 
-    /// The answer to an SPS, which is stored.
-    fn answer_sps(&mut self, alloc: Global, rbsp: &[u8]) -> Result<String, LineFault>
+    /// Appends the answer to a parameter set.
+    fn answer_set(
+        &mut self,
+        text: &mut String,
+        alloc: Global,
+        nal_type: u8,
+        rbsp: &[u8],
+    ) -> Result<(), LineFault>
+        requires { length rbsp.now ≤ unit_limit }
+    {
+        text.push_str("set ")?;
+        match nal_type {
+            VPS_NUT => answer_vps(text, alloc, rbsp),
+            SPS_NUT => self.answer_sps(text, alloc, rbsp),
+            PPS_NUT => self.answer_pps(text, alloc, rbsp),
+            _ => answer_aps(text, alloc, rbsp),
+        }
+    }
+
+    /// Appends the answer to an SPS, which is stored.
+    fn answer_sps(&mut self, text: &mut String, alloc: Global, rbsp: &[u8]) -> Result<(), LineFault>
         requires { length rbsp.now ≤ unit_limit }
     {
         let sps = read_sps(alloc, rbsp)?;
-        let text = sps_text(alloc, &sps, rbsp)?;
-        let id = number(sps.fields(), sps_seq_parameter_set_id);
-        self.sps.insert(id, sps).map_err(AllocError::from)?;
-        Ok(text)
+        write_sps(text, alloc, &sps, rbsp)?;
+        self.store_sps(sps)
     }
 
-    /// The answer to a PPS, which is stored.
-    fn answer_pps(&mut self, alloc: Global, rbsp: &[u8]) -> Result<String, LineFault>
+    /// Stores an SPS under its id.
+    fn store_sps(&mut self, sps: Sps) -> Result<(), LineFault> {
+        let id = number(sps.fields(), sps_seq_parameter_set_id);
+        self.sps.insert(id, sps).map_err(AllocError::from)?;
+        Ok(())
+    }
+
+    /// Appends the answer to a PPS, which is stored.
+    fn answer_pps(&mut self, text: &mut String, alloc: Global, rbsp: &[u8]) -> Result<(), LineFault>
         requires { length rbsp.now ≤ unit_limit }
     {
         let pps = read_pps(alloc, rbsp)?;
-        let text = pps_text(alloc, &pps, rbsp)?;
+        write_pps(text, alloc, &pps, rbsp)?;
+        self.store_pps(pps)
+    }
+
+    /// Stores a PPS under its id.
+    fn store_pps(&mut self, pps: Pps) -> Result<(), LineFault> {
         let id = number(pps.fields(), pps_pic_parameter_set_id);
         self.pps.insert(id, pps).map_err(AllocError::from)?;
-        Ok(text)
+        Ok(())
     }
 
     /// The PPS of an id, and the SPS that it refers to.
@@ -157,28 +187,52 @@ impl Stream {
         Ok(frame_of(alloc, sps, pps)?)
     }
 
-    /// The answer to a picture header that is a unit, which is stored.
-    fn answer_header(&mut self, alloc: Global, rbsp: &[u8]) -> Result<String, LineFault>
+    /// Appends the answer to a picture header that is a unit, which is stored.
+    fn answer_header(
+        &mut self,
+        text: &mut String,
+        alloc: Global,
+        rbsp: &[u8],
+    ) -> Result<(), LineFault>
         requires { length rbsp.now ≤ unit_limit }
     {
         let id = read_pps_id(&mut BitReader::new(rbsp))?;
         let (sps, pps) = self.sets(u32::from(id))?;
-        let (text, header) = answer_header(alloc, rbsp, sps, pps)?;
-        self.header = Some(header);
-        Ok(text)
+        self.header = Some(answer_header(text, alloc, rbsp, sps, pps)?);
+        Ok(())
     }
 
-    /// The answer to a slice.
-    fn answer_slice(&self, alloc: Global, nal_type: u8, rbsp: &[u8]) -> Result<String, LineFault>
+    /// Appends the answer to a slice.
+    fn answer_slice(
+        &self,
+        text: &mut String,
+        alloc: Global,
+        nal_type: u8,
+        rbsp: &[u8],
+    ) -> Result<(), LineFault>
         requires { length rbsp.now ≤ unit_limit }
     {
         if rbsp.first().is_some_and(|byte| *byte >= 128) {
-            let id = read_pps_id(&mut behind_first(rbsp))?;
-            let frame = self.frame(alloc, u32::from(id))?;
-            return answer_inside(alloc, nal_type, rbsp, &frame);
+            return self.answer_inside(text, alloc, nal_type, rbsp);
         }
         let header = self.header()?;
         let frame = self.frame(alloc, number(&header.fields, ph_pic_parameter_set_id))?;
-        answer_apart(alloc, nal_type, rbsp, &frame, header)
+        answer_apart(text, alloc, nal_type, rbsp, &frame, header)
+    }
+
+    /// Appends the answer to a slice whose header has the picture header inside.
+    fn answer_inside(
+        &self,
+        text: &mut String,
+        alloc: Global,
+        nal_type: u8,
+        rbsp: &[u8],
+    ) -> Result<(), LineFault>
+        requires few { length rbsp.now ≤ unit_limit }
+        requires some { 1 ≤ length rbsp.now }
+    {
+        let id = read_pps_id(&mut behind_first(rbsp))?;
+        let frame = self.frame(alloc, u32::from(id))?;
+        answer_inside(text, alloc, nal_type, rbsp, &frame)
     }
 }

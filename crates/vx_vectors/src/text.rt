@@ -1,6 +1,6 @@
 //! What answers have in common: items, refusals, bytes, rectangles.
 
-use std::alloc::{AllocError, Global};
+use std::alloc::AllocError;
 use vx_bits::{Fields, Item, Refusal};
 use vx_layout::{Bounds, Rect, RectList};
 use vx_rpl::RefEntry;
@@ -36,18 +36,17 @@ pub(crate) fn write_same(text: &mut String, written: &[u8], read: &[u8]) -> Resu
     write_bytes(text, written)
 }
 
-/// A refusal as text.
-pub(crate) fn refusal_text(alloc: Global, refusal: Refusal) -> Result<String, AllocError> {
-    let mut text = String::from_str(alloc, "refused ")?;
+/// Appends a refusal.
+pub(crate) fn write_refusal(text: &mut String, refusal: Refusal) -> Result<(), AllocError> {
+    text.push_str("refused ")?;
     match refusal {
         Refusal::Syntax { field, bit, cause } => {
-            write!(text, "Y field={field} bit={bit} cause={cause:?}")?;
+            write!(text, "Y field={field} bit={bit} cause={cause:?}")
         }
-        Refusal::Profile { code } => write!(text, "P code={code}")?,
-        Refusal::Limit { code } => write!(text, "L code={code}")?,
-        other => write!(text, "{other:?}")?,
+        Refusal::Profile { code } => write!(text, "P code={code}"),
+        Refusal::Limit { code } => write!(text, "L code={code}"),
+        other => write!(text, "{other:?}"),
     }
-    Ok(text)
 }
 
 /// Appends the bounds of tile columns or rows.

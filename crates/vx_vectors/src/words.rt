@@ -1,9 +1,11 @@
 //! The words of a line that asks about a call: numbers, flags and items; and what reading came to as text.
 
 use crate::fault::LineFault;
-use crate::text::{refusal_text, write_items};
+use crate::text::{write_items, write_refusal};
 use std::alloc::{AllocError, Global};
-use vx_bits::{Fields, Item, ReadError, Refusal};
+use std::num::ParseIntError;
+use std::str::FromStr;
+use vx_bits::{Fields, Item, ReadError};
 
 /// A flag, `0` or `1`.
 pub(crate) fn flag(word: &str) -> Result<bool, LineFault> {
@@ -15,10 +17,13 @@ pub(crate) fn flag(word: &str) -> Result<bool, LineFault> {
 }
 
 /// Numbers, as `4,3`.
-pub(crate) fn numbers(alloc: Global, word: &str) -> Result<Vec<u32>, LineFault> {
+pub(crate) fn numbers<N: FromStr<Err = ParseIntError> + Drop>(
+    alloc: Global,
+    word: &str,
+) -> Result<Vec<N>, LineFault> {
     let mut numbers = Vec::new(alloc);
     for digits in word.split(',') {
-        let number = digits.parse::<u32>()?;
+        let number = digits.parse::<N>()?;
         numbers.push(number).map_err(AllocError::from)?;
     }
     Ok(numbers)
@@ -59,28 +64,23 @@ pub(crate) fn items(alloc: Global, word: &str) -> Result<Fields, LineFault> {
     Ok(items)
 }
 
-/// What bits were refused for, and none where they were read.
-pub(crate) fn refused(answer: Result<(), ReadError>) -> Result<Option<Refusal>, LineFault> {
-    match answer {
-        Ok(()) => Ok(None),
-        Err(ReadError::Refused(refusal)) => Ok(Some(refusal)),
-        Err(ReadError::Memory) => Err(LineFault::Memory),
-    }
+/// Appends the place where a reading ended, in bits, and the items that it gained.
+pub(crate) fn write_reading(text: &mut String, at: u32, items: &Fields) -> Result<(), LineFault> {
+    write!(text, "at={at}")?;
+    Ok(write_items(text, items)?)
 }
 
-/// The place where a reading ended, in bits, and the items that it gained, as text.
-pub(crate) fn reading_text(alloc: Global, at: u32, items: &Fields) -> Result<String, AllocError> {
-    let mut text = format!(in alloc; "at={at}")?;
-    write_items(&mut text, items)?;
-    Ok(text)
-}
-
-/// Appends what bits were refused for.
-pub(crate) fn write_refusal(
+/// Appends the same of a reading that was refused, and what for.
+pub(crate) fn write_refused(
     text: &mut String,
-    alloc: Global,
-    refusal: Refusal,
-) -> Result<(), AllocError> {
-    let refused = refusal_text(alloc, refusal)?;
-    write!(text, " | {refused}")
+    at: u32,
+    items: &Fields,
+    error: ReadError,
+) -> Result<(), LineFault> {
+    let ReadError::Refused(refusal) = error else {
+        return Err(LineFault::Memory);
+    };
+    write_reading(text, at, items)?;
+    text.push_str(" | ")?;
+    Ok(write_refusal(text, refusal)?)
 }
