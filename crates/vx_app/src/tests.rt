@@ -145,14 +145,30 @@ fn check_row(rt: &impl Abort, alloc: Global, row: &Row<'_>) -> Result<(), Fail> 
     let words = words_of(alloc, row.words)?;
     let mut sources: Vec<Box<dyn Source>> = Vec::new(alloc);
     if file_count(&words) == 1 {
-        let bytes = Vec::from_slice(alloc, row.bytes)?;
-        let source = MemorySource::new(bytes, Vec::new(alloc), Vec::new(alloc));
-        sources.push(Box::new(alloc, source)?)?;
+        sources.push(source(alloc, row.bytes)?)?;
     }
-    assert_eq!(rt; sources.len(), file_count(&words));
+    run_row(rt, alloc, row, &words, &mut sources)
+}
+
+/// A source of these bytes.
+fn source(alloc: Global, bytes: &[u8]) -> Result<Box<dyn Source>, AllocError> {
+    let bytes = Vec::from_slice(alloc, bytes)?;
+    let source = MemorySource::new(bytes, Vec::new(alloc), Vec::new(alloc));
+    Ok(Box::new(alloc, source)?)
+}
+
+/// Runs the program with these words over these sources as the row says, and compares.
+fn run_row(
+    rt: &impl Abort,
+    alloc: Global,
+    row: &Row<'_>,
+    words: &[String],
+    sources: &mut Vec<Box<dyn Source>>,
+) -> Result<(), Fail> {
+    assert_eq!(rt; sources.len(), file_count(words));
     let mut out = sink(alloc, row.room, row.taken, row.failing)?;
     let mut err = sink(alloc, 400, &[1], &[])?;
-    let status = run(alloc, &words, &mut sources, &mut out, &mut err);
+    let status = run(alloc, words, sources, &mut out, &mut err);
     compare(rt, row, status, out.bytes(), err.bytes())
 }
 
@@ -277,13 +293,25 @@ const UNWRITTEN: [(u8, u8, &[u8]); 5] = [
 #[test]
 fn a_failed_last_write_is_told(rt: HostRuntime) -> Result<(), Fail> {
     for (status, told, line) in &UNWRITTEN {
-        let mut writer = BufWriter::new(rt.alloc(), Broken)?;
-        writer.write_all(b"ok pictures 1\n")?;
-        let mut gathered = GatherSink::new(writer);
-        let mut err = sink(rt.alloc(), 400, &[], &[])?;
-        assert_eq!(rt; finish(rt.alloc(), *status, &mut gathered, &mut err), *told);
-        assert_eq!(rt; err.bytes(), *line);
+        check_finish(&rt, rt.alloc(), Broken, *status, (*told, line))?;
     }
+    Ok(())
+}
+
+/// Compares the status and the line where the last write to a writer ends a run of this status.
+fn check_finish<W: Drop + Write>(
+    rt: &impl Abort,
+    alloc: Global,
+    writer: W,
+    status: u8,
+    (told, line): (u8, &[u8]),
+) -> Result<(), Fail> {
+    let mut writer = BufWriter::new(alloc, writer)?;
+    writer.write_all(b"ok pictures 1\n")?;
+    let mut gathered = GatherSink::new(writer);
+    let mut err = sink(alloc, 400, &[], &[])?;
+    assert_eq!(rt; finish(alloc, status, &mut gathered, &mut err), told);
+    assert_eq!(rt; err.bytes(), line);
     Ok(())
 }
 
@@ -291,12 +319,7 @@ fn a_failed_last_write_is_told(rt: HostRuntime) -> Result<(), Fail> {
 fn a_last_write_changes_no_status(rt: HostRuntime) -> Result<(), Fail> {
     for status in 0..5 {
         let mut room = [0; 14];
-        let mut writer = BufWriter::new(rt.alloc(), room.as_mut_slice())?;
-        writer.write_all(b"ok pictures 1\n")?;
-        let mut gathered = GatherSink::new(writer);
-        let mut err = sink(rt.alloc(), 400, &[], &[])?;
-        assert_eq!(rt; finish(rt.alloc(), status, &mut gathered, &mut err), status);
-        assert_eq!(rt; err.bytes(), b"".as_slice());
+        check_finish(&rt, rt.alloc(), room.as_mut_slice(), status, (status, b""))?;
     }
     Ok(())
 }
@@ -378,13 +401,26 @@ fn runs_on_files(rt: HostRuntime) -> Result<(), Fail> {
         if *takes_file {
             words.push(String::from_str(rt.alloc(), path.as_str())?)?;
         }
-        let mut err = sink(rt.alloc(), 400, &[], &[])?;
-        let (answered, bytes) = made_of(&rt, &words, &mut err)?;
-        assert_eq!(rt; bytes.as_slice(), *made);
-        assert_eq!(rt; err.bytes(), *line);
-        assert_eq!(rt; answered, *status);
+        check_run(&rt, &rt, &words, *status, made, line)?;
     }
     fs::remove_file(&rt, path.as_path())?;
+    Ok(())
+}
+
+/// Runs the program on files, and compares the status, what is made and the line.
+fn check_run(
+    rt: &impl Abort,
+    host: &HostRuntime,
+    words: &[String],
+    status: u8,
+    made: &[u8],
+    line: &[u8],
+) -> Result<(), Fail> {
+    let mut err = sink(host.alloc(), 400, &[], &[])?;
+    let (answered, bytes) = made_of(host, words, &mut err)?;
+    assert_eq!(rt; bytes.as_slice(), made);
+    assert_eq!(rt; err.bytes(), line);
+    assert_eq!(rt; answered, status);
     Ok(())
 }
 
@@ -403,11 +439,7 @@ fn compares_files(rt: HostRuntime) -> Result<(), Fail> {
         let mut words = words_of(rt.alloc(), &["verify", "merge"])?;
         words.push(String::from_str(rt.alloc(), path.as_str())?)?;
         words.push(format!(in rt.alloc(); "{corner}={}", path.as_str())?)?;
-        let mut err = sink(rt.alloc(), 400, &[], &[])?;
-        let (answered, bytes) = made_of(&rt, &words, &mut err)?;
-        assert_eq!(rt; bytes.as_slice(), *made);
-        assert_eq!(rt; err.bytes(), *line);
-        assert_eq!(rt; answered, *status);
+        check_run(&rt, &rt, &words, *status, made, line)?;
     }
     fs::remove_file(&rt, path.as_path())?;
     Ok(())

@@ -1,8 +1,8 @@
 //! What a case comes to.
 
-ghost use Rattle.std.specs.Prelude.{◌≡◌, ◌≢◌, [], IfOk, map};
+ghost use Rattle.std.specs.Prelude.{◌≡◌, ◌≢◌, [], IfOk, map, vec_len};
 ghost use Rattle.vx_io.specs.Memory.{fresh_plan};
-ghost use Rattle.vx_run.specs.Grammar.{texts};
+ghost use Rattle.vx_run.specs.Grammar.{NamesFiles, texts};
 ghost use Rattle.vx_cases.specs.Said.{said_of};
 ghost use Rattle.vx_cases.specs.declared.setup.End.TheVariants.{Source as OfSource};
 
@@ -45,9 +45,21 @@ pub(crate) fn outcome_of(
         };
         sources.push(source)?;
     }
+    run_on(alloc, setup, &words, &mut sources)
+}
+
+/// Runs the program with these words over sources.
+fn run_on(
+    alloc: Global,
+    setup: &Setup,
+    words: &[String],
+    sources: &mut Vec<Box<dyn Source>>,
+) -> Result<Outcome>
+    requires { NamesFiles (texts words.now) (vec_len sources.old) }
+{
     let mut out = sink_of(alloc, setup, End::Out, OUT_ROOM)?;
     let mut err = sink_of(alloc, setup, End::Err, LINE_ROOM)?;
-    let status = run(alloc, &words, &mut sources, &mut out, &mut err);
+    let status = run(alloc, words, sources, &mut out, &mut err);
     Ok(Outcome {
         status,
         err: Vec::from_slice(alloc, err.bytes())?,

@@ -1,5 +1,7 @@
 //! Cases whose sources are handed in piece by piece.
 
+ghost use Rattle.std.specs.Prelude.{◌≤◌};
+
 use crate::outcome::Outcome;
 use crate::streams::Streams;
 use anyhow::{Context, Result, bail};
@@ -138,15 +140,27 @@ fn merged(
 ) -> Result<Outcome> {
     let (level, words) = option_first(words, "--level")?;
     let corners = corners_of(alloc, words)?;
-    if !are_corners(&corners) {
-        bail!("no corners");
-    }
     let mut rests = Vec::new(alloc);
     for word in words {
         rests.push(streams.get(placing(word)?.1)?.as_slice())?;
     }
-    let mut mixer = Mixer::new(alloc, &corners, level)?;
-    outcome_of(alloc, &mut mixer, &mut rests, length, order)
+    mixed(alloc, &corners, level, &mut rests, length, order)
+}
+
+/// Mixes sources that are handed in so.
+fn mixed(
+    alloc: Global,
+    corners: &[Corner],
+    level: Option<u8>,
+    rests: &mut Vec<&[u8]>,
+    length: usize,
+    order: Order,
+) -> Result<Outcome> {
+    if !are_corners(corners) {
+        bail!("no corners");
+    }
+    let mut mixer = Mixer::new(alloc, corners, level)?;
+    outcome_of(alloc, &mut mixer, rests, length, order)
 }
 
 /// Extracts of a source that is handed in so.
@@ -169,8 +183,21 @@ fn extracted(
     };
     let mut rests = Vec::new(alloc);
     rests.push(streams.get(name)?.as_slice())?;
+    cut(alloc, task, &mut rests, length, order)
+}
+
+/// Cuts a subpicture out of a source that is handed in so.
+fn cut(
+    alloc: Global,
+    task: Task,
+    rests: &mut Vec<&[u8]>,
+    length: usize,
+    order: Order,
+) -> Result<Outcome>
+    requires { task.tid ≤ 6 }
+{
     let mut cutter = Cutter::new(alloc, task)?;
-    outcome_of(alloc, &mut cutter, &mut rests, length, order)
+    outcome_of(alloc, &mut cutter, rests, length, order)
 }
 
 /// `X,Y=NAME`: the corner and the name.
