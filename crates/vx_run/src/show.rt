@@ -133,38 +133,22 @@ fn gather(
     ensures stop { IfErr result IsOfCommand }
 {
     let mut count = pictures;
-    while let Some(next) = gather_next(alloc, feed, fields, count, lines)? {
+    while let Some(next) = gather_next(
+        alloc,
+        feed,
+        fields,
+        count,
+        &mut StructureFields::new(alloc),
+        lines,
+    )? {
         count = next;
     }
     Ok(count)
 }
 
-/// Puts the lines of the next unit behind others. Answers how many pictures there
-/// are then, behind the first `pictures`, if there is a unit.
-fn gather_next(
-    alloc: Global,
-    feed: &mut Feed,
-    fields: bool,
-    pictures: u64,
-    lines: &mut Vec<u8>,
-) -> Result<Option<u64>, Stop>
-    ensures answer { (R : Readers) (h : AreOfH266 R) (g : List ℕ) (units : List UnitPlace) (before : List Reading)
-        → HasFed R feed.old g units before → pictures ≡ length (pictures_in before)
-        → GathersNext R (teller fields R h) g units before feed.new lines.old.items lines.new.items result }
-    ensures taken { feed.new.reader.taken ≡ feed.old.reader.taken }
-    ensures closed { feed.new.reader.closed ≡ feed.old.reader.closed }
-    ensures all { is_all feed.new.reader.splitter ≡ is_all feed.old.reader.splitter }
-    ensures sought { result ≡ Ok None → IsOpen feed.new → IsSought feed.new.reader.splitter }
-    ensures falls { IfOk result (λ n. OnSome n (left_to_take feed.new < left_to_take feed.old)) }
-    ensures stop { IfErr result IsOfCommand }
-{
-    let mut seen = StructureFields::new(alloc);
-    gather_one(alloc, feed, fields, pictures, &mut seen, lines)
-}
-
 /// Puts the lines of the next unit behind others, with those of the fields that are seen of
 /// it. Answers how many pictures there are then, behind the first `pictures`, if there is a unit.
-fn gather_one(
+fn gather_next(
     alloc: Global,
     feed: &mut Feed,
     fields: bool,
