@@ -22,6 +22,7 @@ pub mod Joins
 pub mod Taking
 pub mod Slots
 pub mod Settling
+pub mod Whole
 pub mod Slicing
 pub mod Lending
 pub mod Gathered

@@ -60,10 +60,10 @@ impl CurrentPicture {
     {
         let mut bytes = Bytes::new(alloc);
         bytes.extend_from_slice(unit)?;
-        self.stage = Stage::Headed(begun);
-        self.bytes = bytes;
+        drop(replace(&mut self.stage, Stage::Headed(begun)));
+        drop(replace(&mut self.bytes, bytes));
         self.header_end = unit.len();
-        self.slices = SliceSlots::new(alloc);
+        drop(replace(&mut self.slices, SliceSlots::new(alloc)));
         Ok(())
     }
 
@@ -71,13 +71,14 @@ impl CurrentPicture {
     pub(crate) fn open(&mut self, alloc: Global, kind: Kind, bodies: ApsList, messages: MessageList)
         ensures { self.new ≡ changes.with_kind kind bodies messages self.old }
     {
-        self.stage = match replace(&mut self.stage, Stage::Nothing) {
+        let stage = match replace(&mut self.stage, Stage::Nothing) {
             Stage::Headed(begun) => Stage::Going(GoingPicture { begun, kind }),
             other => other,
         };
-        self.slices = SliceSlots::new(alloc);
-        self.bodies = bodies;
-        self.messages = messages;
+        drop(replace(&mut self.stage, stage));
+        drop(replace(&mut self.slices, SliceSlots::new(alloc)));
+        drop(replace(&mut self.bodies, bodies));
+        drop(replace(&mut self.messages, messages));
     }
 
     /// Appends the bytes of a slice's unit.

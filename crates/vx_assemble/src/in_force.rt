@@ -4,13 +4,15 @@ ghost use Rattle.vx_pic.specs.Sets.{same_size};
 ghost use Rattle.vx_pic.specs.Rules.{Readers};
 ghost use Rattle.vx_pic.specs.H266.{AreOfH266};
 ghost use Rattle.vx_pic.specs.PictureLayout.{numbers_in};
+ghost use Rattle.vx_ph.specs.InForce.{in_force as header_scope};
+ghost use Rattle.vx_assemble.specs.inner.Order.{AreMade};
 ghost use Rattle.vx_assemble.specs.inner.Takes.{Gives, answer_by};
-ghost use Rattle.vx_assemble.specs.inner.Beginning.{layout_under, AreOf};
+ghost use Rattle.vx_assemble.specs.inner.Beginning.{layout_under, with_sets, AreOf};
 
 use crate::readers::{ids_of, layout_of};
 use crate::refusals::structure;
 use crate::shared::Shared;
-use std::alloc::Global;
+use std::alloc::{AllocError, Global};
 use vx_bits::rules::SIZE_DIFFERS;
 use vx_bits::{IdList, ReadError};
 use vx_layout::Layout;
@@ -57,6 +59,45 @@ fn slice_count(sps: &Sps, pps: &Pps) -> usize
     }
 }
 
+/// What two sets make up.
+#[derive(Drop)]
+struct MadeUp {
+    layout: Layout,
+    ids: IdList,
+    slices: usize,
+    scope: Shared<Scope>,
+}
+
+/// The numbers of two sets, at which headers are read.
+fn scope_of(alloc: Global, sps: &Sps, pps: &Pps) -> Result<Shared<Scope>, AllocError>
+    ensures { IfOk result (λ scope. scope ≡ header_scope sps.now pps.now) }
+{
+    Shared::new(alloc, in_force(sps, pps))
+}
+
+/// What two sets make up.
+///
+/// # Errors
+///
+/// SIZE_DIFFERS, or the lowest fault of the layout; want of memory.
+fn make_up(alloc: Global, sps: &Sps, pps: &Pps) -> Result<MadeUp, ReadError>
+    ensures answer { (R : Readers) → AreOfH266 R → Gives (layout_under R sps.now pps.now) (answer_by (λ made. made.layout) result) }
+    ensures made { IfOk result (λ made. AreMade (with_sets sps.now pps.now made)) }
+{
+    if !have_same_size(sps, pps) {
+        return Err(ReadError::Refused(structure(SIZE_DIFFERS)));
+    }
+    let scope = scope_of(alloc, sps, pps)?;
+    let layout = layout_of(alloc, sps, pps)?;
+    let ids = ids_of(alloc, sps, pps)?;
+    Ok(MadeUp {
+        layout,
+        ids,
+        slices: slice_count(sps, pps),
+        scope,
+    })
+}
+
 impl InForce {
     /// What two sets make up.
     ///
@@ -71,20 +112,14 @@ impl InForce {
         ensures answer { (R : Readers) → AreOfH266 R → Gives (layout_under R sps pps) (answer_by (λ f. f.layout) result) }
         ensures sets { IfOk result (AreOf sps pps) }
     {
-        if !have_same_size(sps.value(), pps.value()) {
-            return Err(ReadError::Refused(structure(SIZE_DIFFERS)));
-        }
-        let layout = layout_of(alloc, sps.value(), pps.value())?;
-        let ids = ids_of(alloc, sps.value(), pps.value())?;
-        let slices = slice_count(sps.value(), pps.value());
-        let scope = Shared::new(alloc, in_force(sps.value(), pps.value()))?;
+        let made = make_up(alloc, sps.value(), pps.value())?;
         Ok(InForce {
             sps,
             pps,
-            layout,
-            ids,
-            slices,
-            scope,
+            layout: made.layout,
+            ids: made.ids,
+            slices: made.slices,
+            scope: made.scope,
         })
     }
 }

@@ -13,6 +13,7 @@ use Rattle.vx_pic.specs.Readings.{Begun}
 use Rattle.vx_pic.specs.Rules.{Readers, structure, missing}
 use Rattle.vx_assemble.specs.declared.begin.SetPair.{SetPair}
 use Rattle.vx_assemble.specs.declared.in_force.InForce.{InForce}
+use Rattle.vx_assemble.specs.declared.in_force.MadeUp.{MadeUp}
 use Rattle.vx_assemble.specs.declared.state.State.{State}
 use Rattle.vx_assemble.specs.inner.Order.{AreMade}
 
@@ -21,6 +22,10 @@ abbrev pub layout_under : Readers → List Item → List Item → Result Numbers
 layout_under R sps pps = do
   _ ← refuse_if (not (same_size sps pps)) (structure rules.SIZE_DIFFERS)
   R.layout sps pps
+
+-- two sets, with what was made of them
+abbrev pub with_sets : List Item → List Item → MadeUp → InForce
+with_sets sps pps made = record { sps = sps; pps = pps; layout = made.layout; ids = made.ids; slices = made.slices; scope = made.scope }
 
 -- two sets, and what they make up
 pub record AreOf (sps pps : List Item) (f : InForce) : Type 0 where

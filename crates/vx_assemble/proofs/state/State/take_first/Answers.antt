@@ -32,3 +32,13 @@ returns-clause-order c = c.settle.ensures.order
 
 pub returns-clause-done : goal.returns-clause-done
 returns-clause-done c = c.in_ok-settle.ensures.done
+
+pub returns-in_err-put_first : goal.returns-in_err-put_first
+returns-in_err-put_first c =
+    let p = err_from_is_err_and c.from_residual-in_err-put_first.result c.from_residual-in_err-put_first.ensures.1 in
+    record { answer = λ R h before held b head. rw (p.1, p.2) tt; order = c.put_first.ensures.order; done = rw p.1 tt }
+
+pub returns-in_err-settle : goal.returns-in_err-settle
+returns-in_err-settle c =
+    let p = err_from_is_err_and c.from_residual-in_err-settle.result c.from_residual-in_err-settle.ensures.1 in
+    record { answer = λ R h before held b head. rw (p.1, p.2) tt; order = c.settle.ensures.order; done = rw p.1 tt }

@@ -34,3 +34,13 @@ returns-clause-order c = c.settle.ensures.order
 
 pub returns-clause-done : goal.returns-clause-done
 returns-clause-done c = c.in_ok-settle.ensures.done
+
+pub returns-in_err-put_slice : goal.returns-in_err-put_slice
+returns-in_err-put_slice c =
+    let e = err_from_is_err_and c.from_residual-in_err-put_slice.result c.from_residual-in_err-put_slice.ensures.1 in
+    record { answer = λ R h before held p is whole. rw (e.1, e.2) tt; order = c.put_slice.ensures.order; done = rw e.1 tt }
+
+pub returns-in_err-settle : goal.returns-in_err-settle
+returns-in_err-settle c =
+    let e = err_from_is_err_and c.from_residual-in_err-settle.result c.from_residual-in_err-settle.ensures.1 in
+    record { answer = λ R h before held p is whole. rw (e.1, e.2) tt; order = c.settle.ensures.order; done = rw e.1 tt }
