@@ -57,6 +57,27 @@ fn joined<L: Lender>(alloc: Global, lenders: &[L]) -> Result<Vec<Picture<'_>>, A
     Ok(round)
 }
 
+/// Checks a round of pictures, and counts it as written.
+fn check_round(
+    alloc: Global,
+    corners: &[Corner],
+    level: Option<u8>,
+    progress: &mut Progress,
+    round: &[Picture<'_>],
+) -> Result<(), WriteError>
+    requires corners { AreCorners corners.now }
+    requires same { length corners.now ≡ length round.now }
+    requires progress { IsProgress corners.now level progress.old }
+    ensures progress { OnOk result (IsProgress corners.now level progress.new) }
+    ensures answer { (done : List Plan) → Stands (merging_of corners.now level progress.old) done
+        → ChecksRound round.now done (merging_of corners.now level progress.new) result }
+{
+    match round_units(alloc, corners, level, progress, round) {
+        Ok(_units) => Ok(()),
+        Err(error) => Err(error),
+    }
+}
+
 /// Checks a round of lenders, and counts it as written.
 fn check_lent<L: Lender>(
     alloc: Global,
@@ -74,8 +95,7 @@ fn check_lent<L: Lender>(
         → ChecksRound (map L.lent lenders.now) done (merging_of corners.now level progress.new) result }
 {
     let round = lent(alloc, lenders)?;
-    let _units = round_units(alloc, corners, level, progress, round.as_slice())?;
-    Ok(())
+    check_round(alloc, corners, level, progress, round.as_slice())
 }
 
 /// Writes a round of pictures.

@@ -1,5 +1,8 @@
 //! A round that is put together as one picture, and written.
 ghost use Rattle.std.specs.Prelude.{◌≡◌, ℕ, ◌<◌, ◌∷◌, [], ◌++◌, List, Option, length, map, flat_map, option_map, IfOk, IfSome, OnOk};
+ghost use Rattle.vx_ph.specs.InForce.{in_force, structures};
+ghost use Rattle.vx_ph.specs.Picture.{IsHeader};
+ghost use Rattle.vx_ph.specs.Reshaped.{IsReshapedPictureHeader};
 ghost use Rattle.vx_pic.specs.Resident.{kept_for as sets_kept_for};
 ghost use Rattle.vx_pic.specs.Written.{Plan, SetUnit, a_pps};
 ghost use Rattle.vx_write.specs.Slots.{AreLastOf, pps_with_id};
@@ -8,16 +11,19 @@ ghost use Rattle.vx_frame.specs.declared.corner.Corner.{Corner};
 ghost use Rattle.vx_frame.specs.Corners.{AreCorners};
 ghost use Rattle.vx_frame.specs.Rounds.{picture_at};
 ghost use Rattle.vx_frame.specs.Rules.{rules_of};
+ghost use Rattle.vx_frame.specs.Shapes.{IsFrame};
 ghost use Rattle.vx_frame.specs.Counts.{pps_slots};
 ghost use Rattle.vx_frame.specs.inner.Found.{Tries};
 ghost use Rattle.vx_frame.specs.inner.Gathered.{AreGathered};
 ghost use Rattle.vx_frame.specs.inner.Frames.{HasPps, IsKeptFrame, IsSomeUsed, IsUsedFor, ServesAs};
+ghost use Rattle.vx_merge.specs.Headers.{ph_shape};
 ghost use Rattle.vx_merge.specs.Merging.{Stands};
 ghost use Rattle.vx_merge.specs.Slots.{TakeSlots};
 ghost use Rattle.vx_merge.specs.inner.Progress.{HasHistory, IsProgress, merging_of};
 ghost use Rattle.vx_merge.specs.inner.Making.{AreHeaders, HasPayloads, AreRoundUnits, payloads_in};
 ghost use Rattle.vx_merge.specs.inner.Counting.{AreUnitsOf, MakesRound};
-ghost use Rattle.vx_merge.specs.inner.Ready.{IsReadyAt};
+ghost use Rattle.vx_merge.specs.inner.Ready.{AreNeeded, IsReadyAt, ids_in};
+ghost use Rattle.vx_merge.specs.inner.Sending.{CanBeSent};
 
 use crate::fronts::slice_fronts;
 use crate::limits::bytes_within;
@@ -30,6 +36,7 @@ use std::alloc::{AllocError, Global};
 use vx_bits::BodyList;
 use vx_frame::{Corner, Frame, RoundBodies, have_pps, round_bodies, sound_frame};
 use vx_layout::Layout;
+use vx_ph::PictureHeader;
 use vx_pic::{Kind, Picture};
 use vx_write::{Slots, WriteError, forget_before, sei_unit};
 
@@ -106,6 +113,28 @@ struct HeaderUnits {
     fronts: Vec<Vec<u8>>,
 }
 
+/// The units of the headers of a round whose picture header is this.
+fn units_with_header(
+    alloc: Global,
+    round: &[Picture<'_>],
+    needed: &RoundSets<'_, '_>,
+    header: &PictureHeader,
+    layout: &Layout,
+) -> Result<HeaderUnits, AllocError>
+    requires ready { IsReadyAt round.now needed.now layout.now }
+    requires says { IsReshapedPictureHeader (picture_at round.now 0).header (ph_shape round.now (ids_in needed.now)) needed.now.sps.now needed.now.pps.now header.now }
+    requires is { IsHeader (structures needed.now.sps.now) (in_force needed.now.sps.now needed.now.pps.now) header.now }
+    ensures { IfOk result (λ h. AreHeaders round.now needed.now layout.now h.header.items (map (λ u. u.items) h.fronts.items)) }
+{
+    let temporal_id = kind_of(round).temporal_id;
+    let unit = header_unit(alloc, header, needed, temporal_id)?;
+    let fronts = slice_fronts(alloc, round, needed, header, layout)?;
+    Ok(HeaderUnits {
+        header: unit,
+        fronts,
+    })
+}
+
 /// The units of the headers of a round, under the sets that it needs and in its frame.
 fn header_units(
     alloc: Global,
@@ -116,17 +145,43 @@ fn header_units(
     requires { IsReadyAt round.now needed.now layout.now }
     ensures { IfOk result (λ h. AreHeaders round.now needed.now layout.now h.header.items (map (λ u. u.items) h.fronts.items)) }
 {
-    let temporal_id = kind_of(round).temporal_id;
-    let header = picture_header(alloc, round, needed)?;
-    let unit = header_unit(alloc, &header, needed, temporal_id)?;
-    let fronts = slice_fronts(alloc, round, needed, &header, layout)?;
-    Ok(HeaderUnits {
-        header: unit,
-        fronts,
-    })
+    match picture_header(alloc, round, needed) {
+        Ok(header) => units_with_header(alloc, round, needed, &header, layout),
+        Err(error) => Err(error),
+    }
 }
 
 // ---- all of it
+
+/// All that is written of a round, under the sets that it needs and in its frame.
+fn units_with<'a>(
+    alloc: Global,
+    layout: &Layout,
+    slots: &mut Slots,
+    round: &[Picture<'a>],
+    needed: &RoundSets<'_, '_>,
+) -> Result<RoundUnits<'a>, AllocError>
+    requires ready { IsReadyAt round.now needed.now layout.now }
+    requires can { CanBeSent needed.now }
+    ensures payloads { IfOk result HasPayloads }
+    ensures units { (corners : List Corner) (level : Option ℕ) (history : List SetUnit) → IsFrame corners round.now layout.now
+        → AreNeeded corners level round.now layout.now (sets_kept_for (picture_at round.now 0).kind.nal_type history) needed.now
+        → AreLastOf (sets_kept_for (picture_at round.now 0).kind.nal_type history) slots.old
+        → IfOk result (λ units. AreRoundUnits corners level round.now history units slots.new) }
+{
+    let kind = kind_of(round);
+    let headers = header_units(alloc, round, needed, layout)?;
+    let sets = send_needed(alloc, slots, needed, kind.temporal_id)?;
+    let (sei, payloads) = kept_parts(alloc, round)?;
+    Ok(RoundUnits {
+        after_eos: kind.after_eos,
+        sets,
+        sei,
+        header: headers.header,
+        fronts: headers.fronts,
+        payloads,
+    })
+}
 
 /// All that is written of a round that breaks no rule, with its PPS under the id that it takes.
 fn units_under<'a>(
@@ -149,19 +204,10 @@ fn units_under<'a>(
         → AreLastOf (sets_kept_for (picture_at round.now 0).kind.nal_type history) slots.old
         → IfOk result (λ units. AreRoundUnits corners level round.now history units slots.new) }
 {
-    let kind = kind_of(round);
-    let needed = needed(alloc, round, bodies, frame, pps_id, slots)?;
-    let headers = header_units(alloc, round, &needed, &frame.layout)?;
-    let sets = send_needed(alloc, slots, &needed, kind.temporal_id)?;
-    let (sei, payloads) = kept_parts(alloc, round)?;
-    Ok(RoundUnits {
-        after_eos: kind.after_eos,
-        sets,
-        sei,
-        header: headers.header,
-        fronts: headers.fronts,
-        payloads,
-    })
+    match needed(alloc, round, bodies, frame, pps_id, slots) {
+        Ok(needed) => units_with(alloc, &frame.layout, slots, round, &needed),
+        Err(error) => Err(error),
+    }
 }
 
 /// All that is written of a round that breaks no rule, in its frame, behind the sets that were sent.
@@ -184,8 +230,30 @@ fn units_behind<'a>(
     forget_before(slots, kind.nal_type);
     let pps_id = taken_pps_id(slots, kind.temporal_id, &frame.plain);
     have_pps(alloc, frame, round, pps_id)?;
-    let units = units_under(alloc, frame, pps_id, slots, round, bodies)?;
-    Ok(units)
+    units_under(alloc, frame, pps_id, slots, round, bodies)
+}
+
+/// All that is written of a round that breaks no rule, in its frame, which is kept then.
+fn units_kept<'a>(
+    alloc: Global,
+    frame: Box<Frame>,
+    kept: &mut Option<Box<Frame>>,
+    slots: &mut Slots,
+    round: &[Picture<'a>],
+    bodies: RoundBodies<'a>,
+) -> Result<RoundUnits<'a>, AllocError>
+    requires bodies { AreGathered round.now bodies }
+    requires used { IsSomeUsed round.now frame.value }
+    requires slots { HasHistory slots.old }
+    ensures kept { OnOk result (IfSome kept.new (λ f. ServesAs round.now frame.value f.value)) }
+    ensures payloads { IfOk result HasPayloads }
+    ensures units { (corners : List Corner) (level : Option ℕ) (history : List SetUnit) → IsUsedFor corners level round.now frame.value → AreLastOf history slots.old
+        → IfOk result (λ units. AreRoundUnits corners level round.now history units slots.new) }
+{
+    let mut own = frame;
+    let made = units_behind(alloc, &mut own, slots, round, bodies);
+    drop(kept.replace(own));
+    made
 }
 
 /// All that is written of a round that breaks no rule, behind the sets that were sent. Its frame is kept where it has
@@ -212,10 +280,8 @@ fn sound_units<'a>(
         → Tries (length round.now) (rules_of corners.now round.now) (AreUnitsOf corners.now level round.now history slots.new) result }
 {
     let bodies = round_bodies(alloc, round)?;
-    let mut frame = sound_frame(alloc, corners, level, kept.take(), round, &bodies)?;
-    let made = units_behind(alloc, &mut frame, slots, round, bodies);
-    *kept = Some(frame);
-    let units = made?;
+    let frame = sound_frame(alloc, corners, level, kept.take(), round, &bodies)?;
+    let units = units_kept(alloc, frame, kept, slots, round, bodies)?;
     Ok(units)
 }
 

@@ -1,5 +1,6 @@
-use Rattle.std.proofs.Common.{◌≡◌, Some, slice_get, refl, ap, sym, subst, ◌∙◌}
+use Rattle.std.proofs.Common.{◌≡◌, ◌<◌, length, Some, slice_get, refl, ap, sym, subst, ◌∙◌}
 use Rattle.std.specs.Prelude.{IfSome}
+use Rattle.std.proofs.lemmas.List.{length-map}
 use Rattle.vx_bits.specs.Codes.{EndsInNoZero}
 use Rattle.vx_write.specs.Units.{IsUnitOf}
 use Rattle.vx_pic.specs.Parts.{Parts, part_of}
@@ -10,6 +11,31 @@ use Rattle.vx_merge.specs.inner.Fronts.{HasShape}
 use Rattle.vx_merge.specs.inner.Ready.{ids_in}
 use Rattle.vx_merge.proofs.SliceFronts.{goes_at, is_front, is_shape, some_round}
 use Rattle.vx_merge.proofs.fronts.slice_front.Goals as goal
+
+pub bounds-round-0 : goal.bounds-round-0
+bounds-round-0 c = some_round c.args.round.now c.args.needed.now c.args.sender.now c.requires.sender
+
+pub bounds-round-k : goal.bounds-round-k
+bounds-round-k c = c.requires.k
+
+pub slice-slice-requires : goal.slice-slice-requires
+slice-slice-requires c =
+    let q_is = picture_read c.args.round.now c.args.k c.index-round-k.result c.requires.k c.index-round-k.is in
+    subst (λ (q : Parts). c.args.i < length q.slices) (sym q_is) c.requires.i
+
+pub filter_in-requires : goal.filter_in-requires
+filter_in-requires c =
+    let needed = c.requires.sender.ready.1.1.needed in
+    needed.taken.of_alf.one_each ∙ (sym (ap length needed.alf) ∙ length-map c.args.needed.now.alf.bodies (λ b. b.now))
+
+pub slice_shape-shape-requires : goal.slice_shape-shape-requires
+slice_shape-shape-requires c = c.slice-slice.ensures.qp
+
+pub plain_unit-requires-clause-nal_type : goal.plain_unit-requires-clause-nal_type
+plain_unit-requires-clause-nal_type c = c.kind-kind.ensures.nal_type
+
+pub plain_unit-requires-clause-temporal_id : goal.plain_unit-requires-clause-temporal_id
+plain_unit-requires-clause-temporal_id c = c.kind-kind.ensures.tid
 
 pub send-requires-clause-shape : goal.send-requires-clause-shape
 send-requires-clause-shape c =

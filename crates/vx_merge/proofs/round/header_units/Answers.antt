@@ -1,54 +1,16 @@
-use Rattle.std.proofs.Common.{Some, refl, sym, ap}
-use Rattle.vx_pic.specs.Readings.{Begun}
-use Rattle.vx_frame.specs.Rounds.{picture_at}
-use Rattle.vx_merge.specs.inner.Ready.{ids_in}
-use Rattle.vx_merge.proofs.OneHeader.{has_header, header_is}
-use Rattle.vx_merge.proofs.Planning.{some_round}
 use Rattle.vx_merge.proofs.round.header_units.Goals as goal
-
-pub kind_of-temporal_id-requires : goal.kind_of-temporal_id-requires
-kind_of-temporal_id-requires c = some_round _ _ c.args.layout.now c.requires
 
 pub picture_header-requires : goal.picture_header-requires
 picture_header-requires c = record { ready = (c.requires.0, (c.args.layout.now, c.requires.1)) }
 
-pub header_unit-requires-clause-tid : goal.header_unit-requires-clause-tid
-header_unit-requires-clause-tid c = c.kind_of-temporal_id.ensures.tid
+pub units_with_header-requires-clause-ready : goal.units_with_header-requires-clause-ready
+units_with_header-requires-clause-ready c = c.requires
 
-pub header_unit-requires-clause-is : goal.header_unit-requires-clause-is
-header_unit-requires-clause-is c = c.in_ok-header.ensures.is
+pub units_with_header-requires-clause-says : goal.units_with_header-requires-clause-says
+units_with_header-requires-clause-says c = c.in-Ok.ensures.says
 
-pub slice_fronts-requires-clause-ready : goal.slice_fronts-requires-clause-ready
-slice_fronts-requires-clause-ready c = c.requires
+pub units_with_header-requires-clause-is : goal.units_with_header-requires-clause-is
+units_with_header-requires-clause-is c = c.in-Ok.ensures.is
 
-pub slice_fronts-requires-clause-says : goal.slice_fronts-requires-clause-says
-slice_fronts-requires-clause-says c = c.in_ok-header.ensures.says
-
-pub slice_fronts-requires-clause-is : goal.slice_fronts-requires-clause-is
-slice_fronts-requires-clause-is c = c.in_ok-header.ensures.is
-
-pub returns : goal.returns
-returns c =
-    let round = c.args.round.now in
-    let n = c.args.needed.now in
-    let header = c.in_ok-header.header in
-    let is = c.in_ok-header.ensures.is in
-    let unit = rw (ap (λ k. k.temporal_id) c.kind_of-temporal_id.ensures.value) at c.in_ok-unit.ensures in
-    let b : Begun = record {
-      sps = n.sps.now;
-      pps = n.pps.now;
-      layout = c.args.layout.now;
-      header = header.fields;
-      temporal_id = (picture_at round 0).kind.temporal_id;
-      unit = Some c.in_ok-unit.unit.items;
-    } in
-    record {
-      begun = b;
-      sps = refl;
-      pps = refl;
-      layout = refl;
-      temporal_id = refl;
-      unit = refl;
-      header = has_header b header refl is round (ids_in n) c.in_ok-unit.unit.items unit.0 refl c.in_ok-header.ensures.says unit.1 unit.2;
-      slices = c.in_ok-fronts.ensures b (record { sps = refl; pps = refl; header = sym (header_is b header refl is); layout = refl; temporal_id = refl });
-    }
+pub returns-in-Ok : goal.returns-in-Ok
+returns-in-Ok c = c.units_with_header.ensures

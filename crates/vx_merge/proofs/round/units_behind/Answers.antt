@@ -1,4 +1,5 @@
-use Rattle.std.proofs.Common.{◌∷◌, [], ap, sym, subst}
+use Rattle.std.proofs.Common.{◌∷◌, [], Result, Ok, Err, ap, sym, subst}
+use Rattle.std.specs.Result.{OnOk}
 use Rattle.vx_pic.specs.Resident.{kept_for}
 use Rattle.vx_pic.specs.Written.{a_pps}
 use Rattle.vx_write.specs.Slots.{pps_with_id}
@@ -10,6 +11,11 @@ use Rattle.vx_frame.proofs.SameSets.{some_used}
 use Rattle.vx_merge.specs.Slots.{TakeSlots}
 use Rattle.vx_merge.proofs.Planning.{kept_last}
 use Rattle.vx_merge.proofs.round.units_behind.Goals as goal
+
+-- what holds at all holds of a value
+whatever : {T E P : Type 0} (r : Result T E) → P → OnOk r P
+whatever (Ok x) holds = holds
+whatever (Err e) holds = tt
 
 pub kind_of-kind-requires : goal.kind_of-kind-requires
 kind_of-kind-requires c = some_used c.args.round.now c.args.frame.now c.requires.used
@@ -47,10 +53,13 @@ units_under-requires-clause-slots c =
     (kept_for c.kind_of-kind.result.nal_type c.requires.slots.0, c.forget_before.ensures c.requires.slots.0 c.requires.slots.1)
 
 pub returns-clause-frame : goal.returns-clause-frame
-returns-clause-frame c = c.in_ok-have_pps.ensures.same
+returns-clause-frame c = whatever c.units_under.result c.in_ok-have_pps.ensures.same
+
+pub returns-clause-payloads : goal.returns-clause-payloads
+returns-clause-payloads c = c.units_under.ensures.payloads
 
 pub returns-clause-units : goal.returns-clause-units
 returns-clause-units c corners level history used stood =
     let own = (picture_at c.args.round.now 0).kind in
     let last = kept_last c.args.slots.now c.forget_before.new.slots c.kind_of-kind.result own history c.kind_of-kind.ensures.value c.forget_before.ensures stood in
-    c.in_ok-units.ensures.units corners level history (c.in_ok-have_pps.ensures.same.used corners level used) last
+    c.units_under.ensures.units corners level history (c.in_ok-have_pps.ensures.same.used corners level used) last
