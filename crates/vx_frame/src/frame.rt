@@ -1,5 +1,5 @@
 //! The frame of a round: what is made of its sets alone, and kept for rounds with the same sets.
-ghost use Rattle.std.specs.Prelude.{◌≡◌, ◌≢◌, ◌<◌, All, List, Option, ℕ, length, map, IfOk, IfSome, OnOk};
+ghost use Rattle.std.specs.Prelude.{◌≡◌, ◌≢◌, ◌<◌, ◌++◌, ◌∷◌, [], All, List, Option, ℕ, length, map, IfOk, IfSome, OnOk};
 ghost use Rattle.std.specs.Bool.{OnTrue};
 ghost use Rattle.vx_layout.specs.Faults.{IsInLimits, IsLayout};
 ghost use Rattle.vx_write.specs.InForce.{AreInForce};
@@ -16,6 +16,7 @@ use crate::frame_sets::{copied_numbers, frame_pps, frame_sps};
 use crate::geometry::{FrameGeometry, frame_geometry};
 use crate::regions::too_many_slices;
 use std::alloc::{AllocError, Global};
+use std::mem::replace;
 use vx_layout::{Layout, LayoutError};
 use vx_pic::{Picture, SetsKey};
 use vx_pps::Pps;
@@ -57,6 +58,15 @@ pub(crate) enum RoundFrame {
     New(FrameGeometry),
 }
 
+/// The sets of a frame.
+#[derive(Drop)]
+struct FrameSets {
+    /// Its SPS.
+    sps: Sps,
+    /// Its PPS with the id 0.
+    plain: Pps,
+}
+
 /// What a frame has beside its geometry.
 #[derive(Drop)]
 struct FrameParts {
@@ -64,21 +74,24 @@ struct FrameParts {
     sources: Vec<SetsKey>,
     /// Its layout.
     layout: Layout,
-    /// Its SPS.
-    sps: Sps,
-    /// Its PPS with the id 0.
-    plain: Pps,
+    /// Its sets.
+    sets: FrameSets,
 }
 
 // ---- the sets of a round
 
-/// The key of a picture's sets.
-fn sets_of(alloc: Global, picture: &Picture<'_>) -> Result<SetsKey, AllocError>
+/// Adds the key of a picture's sets.
+fn add_sets(
+    alloc: Global,
+    sources: &mut Vec<SetsKey>,
+    picture: &Picture<'_>,
+) -> Result<(), AllocError>
     requires { AreInForce picture.now }
-    ensures { IfOk result (λ own. words.sets_in own ≡ words.sets_of picture.now) }
+    ensures { OnOk result (map words.sets_in sources.new.items ≡ map words.sets_in sources.old.items ++ words.sets_of picture.now ∷ []) }
 {
     let key = SetsKey::new(alloc, picture.sps(), picture.pps())?;
-    Ok(key)
+    sources.push(key)?;
+    Ok(())
 }
 
 /// The key of each picture's sets.
@@ -88,7 +101,7 @@ fn sources(alloc: Global, round: &[Picture<'_>]) -> Result<Vec<SetsKey>, AllocEr
 {
     let mut sources = Vec::new(alloc);
     for k in 0..round.len() {
-        sources.push(sets_of(alloc, &round[k])?)?;
+        add_sets(alloc, &mut sources, &round[k])?;
     }
     Ok(sources)
 }
@@ -184,14 +197,14 @@ fn sets_for(
     round: &[Picture<'_>],
     geometry: &FrameGeometry,
     level: Option<u8>,
-) -> Result<(Sps, Pps), AllocError>
+) -> Result<FrameSets, AllocError>
     requires { IsSomeGeometry round.now geometry.now }
-    ensures sps { IfOk result (λ sets. OfGeometry round.now geometry.now (λ corners. IsSpsFor corners round.now level sets.0)) }
-    ensures pps { IfOk result (λ sets. OfGeometry round.now geometry.now (λ corners. IsPpsFor corners round.now geometry.now.numbers 0 sets.1)) }
+    ensures sps { IfOk result (λ sets. OfGeometry round.now geometry.now (λ corners. IsSpsFor corners round.now level sets.sps)) }
+    ensures plain { IfOk result (λ sets. OfGeometry round.now geometry.now (λ corners. IsPpsFor corners round.now geometry.now.numbers 0 sets.plain)) }
 {
     let sps = frame_sps(alloc, round, geometry, level)?;
-    let pps = frame_pps(alloc, round, geometry, 0)?;
-    Ok((sps, pps))
+    let plain = frame_pps(alloc, round, geometry, 0)?;
+    Ok(FrameSets { sps, plain })
 }
 
 /// What the frame with a geometry has beside it.
@@ -204,17 +217,16 @@ fn parts_for(
     requires { (corners : List AnyCorner) × IsRoundGeometry corners round.now geometry.now }
     ensures sources { IfOk result (λ parts. AreSetsOf round.now parts.sources.items) }
     ensures layout { IfOk result (λ parts. parts.layout ≡ geometry.now.numbers) }
-    ensures sps { IfOk result (λ parts. OfGeometry round.now geometry.now (λ corners. IsSpsFor corners round.now level parts.sps)) }
-    ensures plain { IfOk result (λ parts. OfGeometry round.now geometry.now (λ corners. IsPpsFor corners round.now geometry.now.numbers 0 parts.plain)) }
+    ensures sps { IfOk result (λ parts. OfGeometry round.now geometry.now (λ corners. IsSpsFor corners round.now level parts.sets.sps)) }
+    ensures plain { IfOk result (λ parts. OfGeometry round.now geometry.now (λ corners. IsPpsFor corners round.now geometry.now.numbers 0 parts.sets.plain)) }
 {
     let sources = sources(alloc, round)?;
     let layout = layout_of(alloc, geometry)?;
-    let (sps, plain) = sets_for(alloc, round, geometry, level)?;
+    let sets = sets_for(alloc, round, geometry, level)?;
     Ok(FrameParts {
         sources,
         layout,
-        sps,
-        plain,
+        sets,
     })
 }
 
@@ -233,8 +245,7 @@ fn frame_with(
     let FrameParts {
         sources,
         layout,
-        sps,
-        plain,
+        sets: FrameSets { sps, plain },
     } = parts_for(alloc, round, &geometry, level)?;
     let frame = Frame {
         sources,
@@ -291,7 +302,7 @@ fn rename_pps(
     ensures pps { OnOk result (HasPps round.now id frame.new) }
 {
     let pps = frame_pps(alloc, round, &frame.geometry, id)?;
-    frame.renamed = Some(RenamedPps { id, pps });
+    drop(replace(&mut frame.renamed, Some(RenamedPps { id, pps })));
     Ok(())
 }
 

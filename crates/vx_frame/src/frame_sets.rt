@@ -49,9 +49,9 @@ fn copied_tiles(alloc: Global, numbers: &Numbers) -> Result<Tiles, AllocError>
 pub(crate) fn copied_numbers(alloc: Global, numbers: &Numbers) -> Result<Numbers, AllocError>
     ensures { IfOk result (λ copy. copy ≡ numbers.now) }
 {
-    let Tiles { columns, rows } = copied_tiles(alloc, numbers)?;
     let slices = copied(alloc, &numbers.slices)?;
     let subpics = copied(alloc, &numbers.subpics)?;
+    let Tiles { columns, rows } = copied_tiles(alloc, numbers)?;
     Ok(Numbers {
         columns,
         rows,
@@ -97,37 +97,55 @@ pub(crate) fn frame_sps(
     reshape_sps(alloc, round[0].sps(), &shape)
 }
 
-/// What the PPS of an id says.
+/// What the PPS of an id says, where these are the frame's tiles and slices.
 fn pps_shape(
-    alloc: Global,
     round: &[Picture<'_>],
     frame: &FrameGeometry,
     id: u8,
-) -> Result<PpsShape, AllocError>
-    requires { IsSomeGeometry round.now frame.now }
-    ensures { IfOk result (λ shape. OfGeometry round.now frame.now (λ corners. shape ≡ spec.frame_pps_shape corners round.now frame.now.numbers id)) }
+    tiles: Tiles,
+    slices: RectList,
+) -> PpsShape
+    requires frame { IsSomeGeometry round.now frame.now }
+    requires columns { tiles.columns ≡ frame.now.numbers.columns }
+    requires rows { tiles.rows ≡ frame.now.numbers.rows }
+    requires slices { slices ≡ frame.now.numbers.slices }
+    ensures { OfGeometry round.now frame.now (λ corners. result ≡ spec.frame_pps_shape corners round.now frame.now.numbers id) }
 {
     let layouts = frame.layouts.as_slice();
-    let ctb = round[0].sps().ctb();
-    let across_tiles = lowest_crosses(round, layouts, Pieces::Tiles);
-    let across_slices = lowest_crosses(round, layouts, Pieces::Slices);
-    let init_qp = init_qp(&round[0]);
-    let tiles = copied_tiles(alloc, &frame.numbers)?;
-    let slices = copied(alloc, &frame.numbers.slices)?;
-    Ok(PpsShape {
+    PpsShape {
         id,
         sps_id: 0,
         width: frame.width,
         height: frame.height,
-        ctb,
+        ctb: round[0].sps().ctb(),
         subpic_id: None,
         tiles,
         slices,
-        across_tiles,
-        across_slices,
-        init_qp,
+        across_tiles: lowest_crosses(round, layouts, Pieces::Tiles),
+        across_slices: lowest_crosses(round, layouts, Pieces::Slices),
+        init_qp: init_qp(&round[0]),
         merged: true,
-    })
+    }
+}
+
+/// The PPS of an id for a frame that has these tiles and slices.
+fn pps_with(
+    alloc: Global,
+    round: &[Picture<'_>],
+    frame: &FrameGeometry,
+    id: u8,
+    tiles: Tiles,
+    slices: RectList,
+) -> Result<Pps, AllocError>
+    requires frame { IsSomeGeometry round.now frame.now }
+    requires id { id < 64 }
+    requires columns { tiles.columns ≡ frame.now.numbers.columns }
+    requires rows { tiles.rows ≡ frame.now.numbers.rows }
+    requires slices { slices ≡ frame.now.numbers.slices }
+    ensures { IfOk result (λ pps. OfGeometry round.now frame.now (λ corners. pps_reshaped.IsReshapedPps (picture_at round.now 0).pps (spec.frame_pps_shape corners round.now frame.now.numbers id) pps)) }
+{
+    let shape = pps_shape(round, frame, id, tiles, slices);
+    reshape_pps(alloc, round[0].pps(), &shape)
 }
 
 /// The PPS of an id for a frame.
@@ -141,6 +159,7 @@ pub(crate) fn frame_pps(
     requires id { id < 64 }
     ensures { IfOk result (λ pps. OfGeometry round.now frame.now (λ corners. pps_reshaped.IsReshapedPps (picture_at round.now 0).pps (spec.frame_pps_shape corners round.now frame.now.numbers id) pps)) }
 {
-    let shape = pps_shape(alloc, round, frame, id)?;
-    reshape_pps(alloc, round[0].pps(), &shape)
+    let slices = copied(alloc, &frame.numbers.slices)?;
+    let tiles = copied_tiles(alloc, &frame.numbers)?;
+    pps_with(alloc, round, frame, id, tiles, slices)
 }

@@ -14,7 +14,7 @@ ghost use Rattle.vx_frame.specs.inner.Gathered.{AreGathered, IsLowestWith};
 
 use crate::bodies::RoundBodies;
 use crate::items::same_items;
-use crate::told::{Differing, lowest_of, lowest_source, of_field, of_source};
+use crate::told::{Differing, lowest_of, lowest_source, lowest_unlike, of_field, of_source};
 use std::alloc::{AllocError, Global};
 use vx_aps::{LMCS, SCALING};
 use vx_bits::rules::{PICTURE_HEADER, PICTURE_KIND, REFERENCE_LISTS, SHARED_SETS};
@@ -54,8 +54,7 @@ fn lowest_other_kind(round: &[Picture<'_>]) -> Option<u16>
     requires { (0 < length round.now) × (length round.now ≤ 64) }
     ensures { IsLowestAnswer (length round.now) (UnlikeFirst rules.shared_kind round.now) result }
 {
-    let first = &round[0];
-    lowest_source(round, |picture| !same_kind(picture, first))
+    lowest_unlike(round, same_kind)
 }
 
 /// Whether a source's picture is of another kind than source 0's.
@@ -367,8 +366,7 @@ fn lowest_other_lists(round: &[Picture<'_>]) -> Option<u16>
     requires { (0 < length round.now) × (length round.now ≤ 64) }
     ensures { IsLowestAnswer (length round.now) (UnlikeFirst rules.first_lists round.now) result }
 {
-    let first = &round[0];
-    lowest_source(round, |picture| !same_first_lists(picture, first))
+    lowest_unlike(round, same_first_lists)
 }
 
 /// Whether a source's first slice has other lists than source 0's.

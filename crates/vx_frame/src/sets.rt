@@ -1,5 +1,6 @@
 //! The rules on parameter sets.
 ghost use Rattle.std.specs.Prelude.{◌≡◌, ◌<◌, ◌≤◌, ◌∷◌, [], length, IfOk};
+ghost use Rattle.std.specs.Bool.{OnTrue, OnFalse};
 ghost use Rattle.std.specs.Option.{option_or};
 ghost use Rattle.vx_fit.specs.Lowest.{IsLowestAnswer};
 ghost use Rattle.vx_sps.specs.Subpictures.{subpics_of};
@@ -32,13 +33,21 @@ const PROFILE: [u16; 4] = [
 
 // ---- several subpictures
 
+/// Whether a picture has several subpictures.
+fn has_several(picture: &Picture<'_>) -> bool
+    ensures several { OnTrue result (1 < subpics_of picture.now.sps) }
+    ensures alone { OnFalse result (¬ (1 < subpics_of picture.now.sps)) }
+{
+    1 < picture.sps().subpics()
+}
+
 /// The lowest source with several subpictures.
 #[tactic(auto, using(crate::proofs::FirstTold::lowest_told))]
 fn lowest_several(round: &[Picture<'_>]) -> Option<u16>
     requires { length round.now ≤ 64 }
     ensures { IsLowestAnswer (length round.now) (λ k. 1 < subpics_of (picture_at round.now k).sps) result }
 {
-    lowest_source(round, |picture| 1 < picture.sps().subpics())
+    lowest_source(round, has_several)
 }
 
 /// Whether a source has several subpictures.

@@ -16,10 +16,10 @@ returns-clause-same c = record {
       layout = used.is.layout;
       sps = used.is.sps;
       plain = used.is.plain;
-      renamed = c.in_ok-pps.ensures corners used.is.geometry;
+      renamed = rw c.replace.ensures.after (c.in_ok-pps.ensures corners used.is.geometry);
     };
   };
 }
 
 pub returns-clause-pps : goal.returns-clause-pps
-returns-clause-pps c = λ corners level used. rw (ne_eqb c.args.id 0 c.requires.other) used.is.renamed
+returns-clause-pps c = λ corners level used. rw (ne_eqb c.args.id 0 c.requires.other, c.replace.ensures.after) (c.in_ok-pps.ensures corners used.is.geometry)
