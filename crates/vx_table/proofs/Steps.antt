@@ -14,6 +14,7 @@ use Rattle.vx_table.specs.declared.parts.Part.{Part}
 use Rattle.vx_table.specs.Parts.{sections_form, section_form, section_of, parts_form}
 use Rattle.vx_table.specs.Scope.{value}
 use Rattle.vx_table.specs.Walks.{Step, Walks, ended, coded, refused}
+pub use Rattle.vx_table.specs.inner.Leading.{Leads}
 use Rattle.vx_table.proofs.Blocks.{form-field, form-name, form-block}
 
 -- a walk to the end of one form and on along the next is one along both
@@ -28,9 +29,10 @@ pub stop : {C I E A B : Type 0} {step : Step C I E} {f : Form A} (next : A → F
 stop next (coded s rest) = coded s (stop next rest)
 stop next (refused s) = refused s
 
--- Whatever follows this rest of a form, from this coder and these items on, completes the whole.
-pub record Leads {C I E A : Type 0} (step : Step C I E) (whole : Form A) (first : C) (first_items : I) (rest : Form A) (c : C) (i : I) : Type 0 where
-  pub on : (r : Result A E) (d : C) (j : I) → Walks step rest c i r d j → Walks step whole first first_items r d j
+-- one rest behind another
+pub leads-on : {C I E A : Type 0} {step : Step C I E} {whole between rest : Form A} {first c d : C} {first_items i j : I}
+    → Leads step whole first first_items between c i → Leads step between c i rest d j → Leads step whole first first_items rest d j
+leads-on before behind = record { on = λ r e k w. before.on r e k (behind.on r e k w) }
 
 pub leads : {C I E A : Type 0} (step : Step C I E) (f : Form A) (c : C) (i : I) → Leads step f c i f c i
 leads step f c i = record { on = λ r d j w. w }

@@ -2,3 +2,4 @@
 pub mod Names
 pub mod ByType
 pub mod Loading
+pub mod Leading

@@ -181,7 +181,6 @@ impl<F: Constant<Cell<Formula>>, R: Rows> Rows for FieldThen<F, R> {
 
     ghost rows = { row.Field F.Constant.value ∷ R.Rows.rows };
 
-    #[tactic(auto, using(crate::proofs::ByType::field_then, crate::proofs::ByType::field_stop))]
     #[inline(always)]
     fn code<I, C: Coder<I>>(
         &self,
@@ -219,7 +218,6 @@ impl<const FIELD: u16, const KEPT: bool, R: Rows> Rows for FlagThen<FIELD, KEPT,
 
     ghost rows = { row.Field (flag_cell FIELD KEPT) ∷ R.Rows.rows };
 
-    #[tactic(auto, using(crate::proofs::ByType::field_then, crate::proofs::ByType::field_stop))]
     #[inline(always)]
     fn code<I, C: Coder<I>>(
         &self,
@@ -258,7 +256,6 @@ impl<const NAME: u16, F: Constant<Formula>, R: Rows> Rows for NameThen<NAME, F, 
 
     ghost rows = { row.Name NAME F.Constant.value ∷ R.Rows.rows };
 
-    #[tactic(auto, using(crate::proofs::ByType::name_then))]
     #[inline(always)]
     fn code<I, C: Coder<I>>(
         &self,
@@ -301,7 +298,6 @@ impl<F: Constant<Formula>, B: Rows, R: Rows> Rows for WhenThen<F, B, R> {
 
     ghost rows = { row.Block (When F.Constant.value) (length B.Rows.rows) ∷ B.Rows.rows ++ R.Rows.rows };
 
-    #[tactic(auto, using(crate::proofs::ByType::block_then, crate::proofs::ByType::block_stop))]
     #[inline(always)]
     fn code<I, C: Coder<I>>(
         &self,
@@ -344,7 +340,6 @@ impl<const COUNTER: u16, F: Constant<Formula>, B: Rows, R: Rows> Rows
 
     ghost rows = { row.Block (Repeat COUNTER F.Constant.value) (length B.Rows.rows) ∷ B.Rows.rows ++ R.Rows.rows };
 
-    #[tactic(auto, using(crate::proofs::ByType::block_then, crate::proofs::ByType::block_stop))]
     #[inline(always)]
     fn code<I, C: Coder<I>>(
         &self,

@@ -1,11 +1,13 @@
 //! The walk over a table, for every coder.
 
-ghost use Rattle.std.specs.Prelude.{◌≡◌, ℕ, ℤ, ◌+◌, ◌≤◌, min, List, ◌∷◌, length, take, drop, Result, MatchOption, IfSome};
+ghost use Rattle.std.specs.Prelude.{◌≡◌, ℕ, ℤ, ◌+◌, ◌≤◌, min, List, ◌∷◌, length, take, drop, Result, Err, MatchOption, IfSome, IfOk, IfErr};
+ghost use Rattle.vx_table.specs.declared.rows.Row.TheVariants.{Block};
 ghost use Rattle.vx_table.specs.Scope.{value};
 ghost use Rattle.vx_table.specs.Forms as forms;
 ghost use Rattle.vx_table.specs.Forms.{Form, done, coding_in, limits_at, cell_at, after, turns, present, form_of, one_field};
 ghost use Rattle.vx_table.specs.Spelling.{IsCodable};
 ghost use Rattle.vx_table.specs.Walks.{Walks, leaving};
+ghost use Rattle.vx_table.specs.inner.Leading.{Leads};
 
 use crate::arithmetic::natural;
 use crate::rows::{Cell, Coding, Formula, Limits, Presence, Row, Term};
@@ -245,47 +247,71 @@ pub fn code_table<I, C: Coder<I>>(
     let mut behind: &[Row] = &[];
     while let Some((row, rest, last)) = first_row(rows, behind) {
         behind = last;
-        rows = match row {
+        match row {
             Row::Field(field) => {
                 code_field(field, scope, coder, items)?;
-                rest
+                rows = rest;
             }
             Row::Block {
                 presence,
                 rows: inside,
             } => {
-                let (block, next) = split_block(rest, *inside);
-                match presence {
-                    Presence::When(holds) => {
-                        if scope.number(holds) == 0 {
-                            next
-                        } else if let Some(all) = one_behind(next, last) {
-                            behind = all;
-                            block
-                        } else {
-                            code_table(block, scope, coder, items)?;
-                            next
-                        }
-                    }
-                    Presence::Repeat { counter, times } => {
-                        let times = scope.number(times);
-                        if times == 0 {
-                            next
-                        } else {
-                            code_turns(block, *counter, times, scope, coder, items)?;
-                            next
-                        }
-                    }
-                }
+                let (next, after) = pass_block(presence, *inside, rest, last, scope, coder, items)?;
+                rows = next;
+                behind = after;
             }
             Row::Name { name, formula } => {
                 let number = scope.number(formula);
                 scope.set(*name, number);
-                rest
+                rows = rest;
             }
-        };
+        }
     }
     Ok(())
+}
+
+/// Codes a block that comes before the rest of some rows, or leads into it, where it is there once and one of the two runs of rows
+/// behind it has none. It gives the rows that come next, and those behind them.
+#[cycle(walk)]
+#[inline(always)]
+fn pass_block<'a, I, C: Coder<I>>(
+    presence: &Presence,
+    inside: usize,
+    rest: &'a [Row],
+    behind: &'a [Row],
+    scope: &mut Scope,
+    coder: &mut C,
+    items: &mut I,
+) -> Result<(&'a [Row], &'a [Row]), C::Fault>
+    ensures leads { IfOk result (λ r. Leads C.step
+        (forms.◌>>=◌ (form_of (Block presence.now inside ∷ rest.now) scope.old) (form_of behind.now)) coder.old items.old
+        (forms.◌>>=◌ (form_of r.0.now scope.new) (form_of r.1.now)) coder.new items.new) }
+    ensures fewer { IfOk result (λ r. length r.0.now + length r.1.now ≤ length rest.now + length behind.now) }
+    ensures refused { IfErr result (λ e. Walks C.step
+        (forms.◌>>=◌ (form_of (Block presence.now inside ∷ rest.now) scope.old) (form_of behind.now)) coder.old items.old
+        (Err e) coder.new items.new) }
+{
+    let (block, next) = split_block(rest, inside);
+    match presence {
+        Presence::When(holds) => {
+            if scope.number(holds) == 0 {
+                return Ok((next, behind));
+            }
+            if let Some(all) = one_behind(next, behind) {
+                return Ok((block, all));
+            }
+            code_table(block, scope, coder, items)?;
+            Ok((next, behind))
+        }
+        Presence::Repeat { counter, times } => {
+            let times = scope.number(times);
+            if times == 0 {
+                return Ok((next, behind));
+            }
+            code_turns(block, *counter, times, scope, coder, items)?;
+            Ok((next, behind))
+        }
+    }
 }
 
 /// Codes a block of rows as often as it is there.

@@ -4,10 +4,13 @@ use Rattle.vx_table.proofs.Steps.{Leads}
 use Rattle.vx_table.proofs.walk.+walk.Given as goal
 
 abbrev pub decreases-code_table : goal.decreases-code_table
-decreases-code_table g l = 2 * length l.table.now
+decreases-code_table g l = 3 * length l.table.now
 
 abbrev pub decreases-code_turns : goal.decreases-code_turns
-decreases-code_turns g l = 2 * length l.block.now + 1
+decreases-code_turns g l = 3 * length l.block.now + 1
+
+abbrev pub decreases-pass_block : goal.decreases-pass_block
+decreases-pass_block g l = 3 * length l.rest.now + 2
 
 abbrev pub invariant-code_table-loop-row : goal.invariant-code_table-loop-row
 invariant-code_table-loop-row g l =
