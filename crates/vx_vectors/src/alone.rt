@@ -66,15 +66,7 @@ fn slice_alone(
 ) -> Result<(), LineFault>
     requires { length rbsp.now ≤ unit_limit }
 {
-    let numbers = SliceNumbers {
-        nal_type,
-        sps: frame.sps,
-        pps: frame.pps,
-        header,
-        layout: &frame.layout,
-        ids: &frame.ids,
-    };
-    read_alone(text, alloc, rbsp, &numbers)
+    read_alone(text, alloc, rbsp, &frame.at_slice(nal_type, header))
 }
 
 /// Appends what is read of a slice header of a unit of a type, under the picture header that came last.

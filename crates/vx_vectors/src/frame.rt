@@ -6,8 +6,10 @@ ghost use Rattle.vx_pic.specs.PictureLayout.{AnswersLayout, ids_of};
 use std::alloc::{AllocError, Global};
 use vx_bits::{IdList, ReadError};
 use vx_layout::Layout;
+use vx_ph::PictureHeader;
 use vx_pic::{picture_ids, picture_layout};
 use vx_pps::{Pps, read_pps};
+use vx_sh::SliceNumbers;
 use vx_sps::{Sps, read_sps};
 
 /// The sets of a picture.
@@ -50,6 +52,33 @@ pub(crate) struct Frame<'a> {
     pub(crate) ids: IdList,
     ghost few: { length ids ≤ 1000 },
     ghost one_each: { length ids ≡ length layout.subpics },
+}
+
+impl<'a> Frame<'a> {
+    /// What is in force at a slice of a unit of a type, under a picture header.
+    pub(crate) fn at_slice<'b>(
+        &'b self,
+        nal_type: u8,
+        header: &'b PictureHeader,
+    ) -> SliceNumbers<'b>
+        ensures sps { result.sps.now ≡ self.now.sps.now }
+        ensures pps { result.pps.now ≡ self.now.pps.now }
+        ensures header { result.header.now ≡ header.now }
+        ensures nal_type { result.nal_type ≡ nal_type }
+        ensures layout { result.layout.now ≡ self.now.layout }
+        ensures ids { result.ids.now ≡ self.now.ids }
+        ensures few { length result.ids.now ≤ 1000 }
+        ensures one_each { length result.ids.now ≡ length result.layout.now.subpics }
+    {
+        SliceNumbers {
+            nal_type,
+            sps: self.sps,
+            pps: self.pps,
+            header,
+            layout: &self.layout,
+            ids: &self.ids,
+        }
+    }
 }
 
 /// What two sets make up.

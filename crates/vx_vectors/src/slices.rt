@@ -124,15 +124,7 @@ pub(crate) fn answer_apart(
 ) -> Result<(), LineFault>
     requires { length rbsp.now ≤ unit_limit }
 {
-    let numbers = SliceNumbers {
-        nal_type,
-        sps: frame.sps,
-        pps: frame.pps,
-        header,
-        layout: &frame.layout,
-        ids: &frame.ids,
-    };
-    read_apart(text, alloc, rbsp, &numbers)
+    read_apart(text, alloc, rbsp, &frame.at_slice(nal_type, header))
 }
 
 /// The bits behind the first of bytes.
@@ -182,13 +174,5 @@ pub(crate) fn answer_inside(
 {
     let mut bits = behind_first(rbsp);
     let header = read_ph(alloc, &mut bits, frame.sps, frame.pps)?;
-    let numbers = SliceNumbers {
-        nal_type,
-        sps: frame.sps,
-        pps: frame.pps,
-        header: &header,
-        layout: &frame.layout,
-        ids: &frame.ids,
-    };
-    read_inside(text, alloc, rbsp, &numbers, &bits)
+    read_inside(text, alloc, rbsp, &frame.at_slice(nal_type, &header), &bits)
 }
