@@ -3,7 +3,7 @@ use Rattle.std.proofs.Common.{◌≡◌, ℕ, ◌+◌, ◌<◌, ◌≤◌, nat_l
 use Rattle.std.proofs.lemmas.Bool.{le-leb, lt-leb}
 use Rattle.std.proofs.lemmas.List.{length-take, take_min, take-append-le, take-append-drop, length-take-le, map-append}
 use Rattle.std.proofs.Math.Nat.{min_comm}
-use Rattle.std.specs.Prelude.{slice_range, min}
+use Rattle.std.specs.Prelude.{Result, OnSome, slice_range, min}
 use Rattle.vx_annexb.specs.NalUnit.{header_of}
 use Rattle.vx_annexb.specs.declared.span.Span.{Span}
 use Rattle.vx_annexb.specs.declared.unit_reader.Closed.{Closed}
@@ -123,7 +123,7 @@ takes_unit R g places before old new span unit what fed finds lends takes units 
 )
 
 -- or refused
-accepts_none : (R : Readers) (before : List Reading) (new : Held) (unit : List ℕ) (place : ℕ) (fault : AssembleFault) → Takes (reads R before unit) before new (Err fault)
+pub accepts_none : (R : Readers) (before : List Reading) (new : Held) (unit : List ℕ) (place : ℕ) (fault : AssembleFault) → Takes (reads R before unit) before new (Err fault)
     → Accepts R before new unit place (Err (fault_of fault))
 accepts_none R before new unit place faults.Memory takes = tt
 accepts_none R before new unit place (faults.Refused r) takes = takes
@@ -233,6 +233,22 @@ module _ (R : Readers) (bytes : List ℕ) (qs : List Picture) (ending : Option E
       let here = sees_by f (feeding r a n) ps h all what gives lends in
       let stepped = subst (λ (s : Option Step). SeesOn R bytes qs ending ps (feeding r a n) (Ok s)) (sym is) here in
       subst (λ (x : Option First). SeesOn R bytes qs ending ps (record { reader = r; assembler = a; units = n; first = x }) (Ok step)) (sym none) stepped
+
+-- what it was, by where that comes to
+pub picture_by : (what : Option Accepted) (step : Option Step) (r : Result (Option Step) AssembleFault) → step ≡ step_at what → r ≡ Ok step
+    → r ≡ Ok (Some steps.Picture) → what ≡ Some accepted.PictureDone
+picture_by None step r at_ is picture = absurd (cc)
+picture_by (Some accepted.PictureDone) step r at_ is picture = refl
+picture_by (Some accepted.Nothing) step r at_ is picture = absurd (cc)
+picture_by (Some accepted.Vps) step r at_ is picture = absurd (cc)
+picture_by (Some (accepted.Sps id)) step r at_ is picture = absurd (cc)
+picture_by (Some (accepted.Pps id)) step r at_ is picture = absurd (cc)
+picture_by (Some (accepted.Aps kind id)) step r at_ is picture = absurd (cc)
+
+pub falls_by : {P : Type 0} (what : Option Accepted) (step : Option Step) (r : Result (Option Step) AssembleFault) → step ≡ step_at what → r ≡ Ok step
+    → r ≡ Ok None → OnSome what P → P
+falls_by None step r at_ is none falls = absurd (cc)
+falls_by (Some what) step r at_ is none falls = falls
 
 -- ---- a call that advances
 

@@ -1,6 +1,8 @@
 -- Lemmas of this crate.
+pub mod Results
 pub mod Answers
 pub mod Feeding
+pub mod Within
 pub mod Seeking
 pub mod Advancing
 pub mod Steps
@@ -30,5 +32,6 @@ pub mod Messages
 pub mod Small
 pub mod ReadUnder
 pub mod Bodies
+pub mod Bounds
 pub mod Shown
 pub mod Looking

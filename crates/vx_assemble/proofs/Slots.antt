@@ -249,3 +249,7 @@ headed_known s b o is = λ t. o.known t ∙ ap begun_sps is
 pub joined_headed : (c : CurrentPicture) (b : BegunPicture) (o : Opened) (size : ℕ) → c.stage ≡ stages.Headed b
     → IsJoined b o.kind.nal_type o.bodies size o.read → HasJoinedFirst c size o
 joined_headed c b o size is joined = record { begun = b; is = is; joined = joined }
+
+-- a slice came
+pub some_slot : {A : Type 0} (slots : List A) (slot : A) → 0 < length (slots ++ slot ∷ [])
+some_slot slots slot = omega (arith, length-append slots (slot ∷ []))

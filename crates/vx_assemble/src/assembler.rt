@@ -48,7 +48,6 @@ impl Assembler {
     ghost use Rattle.vx_assemble.specs.Held.{Stands, Takes, Ends, told, HasPicture, IsBounded, ShowsLatest, lent_by, first_fault, first_of, IsSet, items_of};
     ghost use Rattle.vx_pic.specs.Readings.{pictures};
 
-    #[tactic(auto, using(crate::proofs::Bodies::few_bodies))]
     /// An assembler that took no units. It takes no memory yet.
     pub fn new(alloc: Global) -> Assembler
         ensures stands { Stands result [] }
@@ -63,7 +62,6 @@ impl Assembler {
         }
     }
 
-    #[tactic(auto, using(crate::proofs::Bodies::few_bodies))]
     /// Takes a unit, as framing gives it, and tells what it is. The picture lent before is given up.
     ///
     /// # Errors
@@ -119,7 +117,6 @@ impl Assembler {
         Ok(read)
     }
 
-    #[tactic(auto, using(crate::proofs::Bodies::few_bodies))]
     /// Says that the units are all there are.
     ///
     /// # Errors

@@ -232,24 +232,28 @@ impl State {
         Ok(items)
     }
 
+    /// The items of a picture header inside a slice, of which all bytes are passed.
+    fn whole_header_items(&self, alloc: Global, unit: SliceUnit<'_>) -> Result<Fields, AllocError>
+        ensures { IfOk result (λ items. (R : Readers) (h : AreOfH266 R) (before : List Reading) → IsApart self.now before
+            → items ≡ head_items true ++ fields.picture_header_items R h true (rbsp_of unit.entry.bytes.now) before) }
+    {
+        let bytes = unescape(alloc, unit.bytes)?;
+        let whole = unit.whole(&bytes);
+        let items = self.picture_header_items(alloc, true, whole.rbsp)?;
+        Ok(items)
+    }
+
     /// The items of a slice with the picture header inside.
     fn alone_items(&self, alloc: Global, unit: SliceUnit<'_>) -> Result<Fields, AllocError>
         requires { IsInOrder self.now }
         ensures { IfOk result (λ items. (R : Readers) (h : AreOfH266 R) (before : List Reading) → IsApart self.now before
             → items ≡ fields.alone_items R h before unit.entry.bytes.now (begins R before unit.entry.bytes.now None)) }
     {
-        let begun = match self.begin_alone(alloc, unit) {
-            Ok(begun) => begun,
-            Err(ReadError::Memory) => return Err(AllocError),
-            Err(ReadError::Refused(_)) => {
-                let bytes = unescape(alloc, unit.bytes)?;
-                let whole = unit.whole(&bytes);
-                let items = self.picture_header_items(alloc, true, whole.rbsp)?;
-                return Ok(items);
-            }
-        };
-        let items = slice_items(alloc, unit.header.nal_type, &begun, unit)?;
-        Ok(items)
+        match self.begin_alone(alloc, unit) {
+            Ok(begun) => slice_items(alloc, unit.header.nal_type, &begun, unit),
+            Err(ReadError::Memory) => Err(AllocError),
+            Err(ReadError::Refused(_)) => self.whole_header_items(alloc, unit),
+        }
     }
 
     /// The fields of a slice whose picture header came before it; none where there is no such picture.

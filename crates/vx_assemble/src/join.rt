@@ -110,7 +110,6 @@ fn check_named(bodies: &ApsList, kind: u8, field: u16, fields: &Fields) -> Resul
 }
 
 /// Whether the filters that items name are there.
-#[tactic(auto, using(crate::proofs::Named::luma_bad, crate::proofs::Named::chroma_bad, crate::proofs::Named::cb_bad, crate::proofs::Named::cr_said))]
 fn check_filters(bodies: &ApsList, items: &Fields) -> Result<(), Refusal>
     requires { AreSmall (sets.named_filters items.now) }
     ensures { result ≡ all_there bodies.now (sets.named_filters items.now) }
@@ -133,7 +132,6 @@ fn filter_items<'a>(pps: &Pps, header: &'a Fields, slice: &'a Fields) -> &'a Fie
 }
 
 /// Whether the adaptation parameter sets that a slice names are there: LMCS and scaling lists whether it uses them or not.
-#[tactic(auto, using(crate::proofs::Named::filters_bad, crate::proofs::Named::lmcs_bad, crate::proofs::Named::scaling_said))]
 fn check_bodies(bodies: &ApsList, pps: &Pps, header: &Fields, slice: &Fields) -> Result<(), Refusal>
     requires { AreSmall (names_in pps.now header.now slice.now) }
     ensures { result ≡ all_there bodies.now (names_in pps.now header.now slice.now) }

@@ -83,7 +83,6 @@ pub(crate) fn nal_header(unit: &[u8]) -> NalHeader
 const FRONT: usize = 512;
 
 /// The first bytes of a unit, which are a unit too.
-#[tactic(auto, using(crate::proofs::Fronts::front_is, crate::proofs::Fronts::front_sound, crate::proofs::Fronts::front_header))]
 pub(crate) fn front_of(unit: &[u8]) -> &[u8]
     requires { IsSound unit.now }
     ensures front { IsFront result.now unit.now }

@@ -1,24 +1,22 @@
+use Rattle.std.proofs.Common.{refl}
 use Rattle.std.proofs.lemmas.Result.{err_from_is_err_and}
+use Rattle.vx_assemble.proofs.InMemory.{accepts_none}
 use Rattle.vx_assemble.proofs.feed.accept.Goals as goal
 
-pub returns-in_err-what-clause-told : goal.returns-in_err-what-clause-told
-returns-in_err-what-clause-told c =
+pub returns-in_err-what : goal.returns-in_err-what
+returns-in_err-what c =
     let p = err_from_is_err_and c.from_residual.result c.from_residual.ensures.1 in
-    rw p.1 tt
+    record {
+      answer = λ R of before stands. rw (p.1, p.2) (accepts_none R before c.accept.new.self c.args.unit.now c.args.offset _ (c.in_err-what.ensures.answer R of before stands));
+      told = rw p.1 tt;
+      bounded = c.accept.ensures.bounded;
+      nal = λ is. let e = p.1 in cc;
+    }
 
-pub returns-in_err-what-clause-bounded : goal.returns-in_err-what-clause-bounded
-returns-in_err-what-clause-bounded c = c.accept.ensures.bounded
-
-pub returns-in_err-what-clause-nal : goal.returns-in_err-what-clause-nal
-returns-in_err-what-clause-nal c is =
-    let p = err_from_is_err_and c.from_residual.result c.from_residual.ensures.1 in
-    let e = p.1 in cc
-
-pub returns-clause-told : goal.returns-clause-told
-returns-clause-told c = c.in_ok-what.ensures.told
-
-pub returns-clause-bounded : goal.returns-clause-bounded
-returns-clause-bounded c = c.accept.ensures.bounded
-
-pub returns-clause-nal : goal.returns-clause-nal
-returns-clause-nal c is = absurd (cc)
+pub returns : goal.returns
+returns c = record {
+  answer = λ R of before stands. (c.in_ok-what.ensures.answer R of before stands, c.nal_header-header.ensures, refl, refl);
+  told = c.in_ok-what.ensures.told;
+  bounded = c.accept.ensures.bounded;
+  nal = λ is. absurd (cc);
+}

@@ -1,15 +1,12 @@
-use Rattle.std.proofs.Common.{Option, arith, ◌≡◌, ◌∙◌, ◌<◌, ◌+◌, ℕ, None, Some, IsSome, Result, Ok, Err, refl, sym}
+use Rattle.std.proofs.Common.{Option, arith, ◌≡◌, ◌∙◌, ◌<◌, ◌+◌, ℕ, None, Some, IsSome, refl, sym}
 use Rattle.std.proofs.lemmas.Result.{err_from_is_err_and}
 use Rattle.vx_assemble.specs.Feed.{Lowers, Counts}
 use Rattle.vx_assemble.specs.inner.Feed.{feeding}
 use Rattle.vx_assemble.specs.declared.feed.Taken.TheVariants as taken
 use Rattle.vx_assemble.specs.declared.feed.Taken.{Taken}
 use Rattle.vx_assemble.proofs.Feeding.{gives_unit, refused_by_bytes, refused_by_unit, gives_none, gives_end, refused_at_end, sees_unit, sees_refused, sees_no_bytes, sees_end}
+use Rattle.vx_assemble.proofs.Results.{never, untrue, given_none, none_is_given, given_same, if_none, on_none, on_err, le_self, le_more, more_taken, as_many}
 use Rattle.vx_assemble.proofs.feed.take_seen.Goals as goal
-
--- an error is no value
-never : {T E A : Type 0} {r : Result T E} {x : T} {y : E} → r ≡ Err y → r ≡ Ok x → A
-never err ok = absurd (cc)
 
 lowers_by : (t : Taken) (old new : ℕ) → new < old → Lowers (Some t) old new
 lowers_by (taken.Nal header place bytes what) old new falls = falls
@@ -32,23 +29,23 @@ returns-in_err-span g c =
       seen = λ R of b places before fed.
           rw (p.1, p.2) (sees_no_bytes (g.V.UnitView.sees R of) g.V.UnitView.nothing R b places before (feeding c.next.new.self c.args.assembler.now c.args.units.now) _ _ (c.in_err-span.ensures.answer b places fed.read)
           c.look_away.ensures);
-      count = rw p.1 tt;
+      count = on_none _ _ p.1;
       fed = c.next.ensures.lends.fed;
       «open» = λ is. never p.1 is;
       sought = λ is. never p.1 is;
       within = λ is. never p.1 is;
       taken = c.next.ensures.taken;
       closed = c.next.ensures.closed;
-      lowers = rw p.1 tt;
-      units = rw p.1 tt;
+      lowers = if_none _ _ p.1;
+      units = if_none _ _ p.1;
       none = λ is. refl;
-      kept = rw p.1 refl;
-      grows = omega arith;
+      kept = on_err _ refl;
+      grows = le_self _;
       held = c.next.ensures.held;
       bounded = c.requires.bounded;
       all = c.next.ensures.lends.all;
       ended = λ end open_. never p.1 end;
-      told = rw p.1 tt;
+      told = if_none _ _ p.1;
     }
 
 pub returns-in_err-look : goal.returns-in_err-look
@@ -59,23 +56,23 @@ returns-in_err-look g c =
           rw (p.1, p.2) tt;
       seen = λ R of b places before fed.
           rw (p.1, p.2) tt;
-      count = rw p.1 tt;
+      count = on_none _ _ p.1;
       fed = c.next.ensures.lends.fed;
       «open» = λ is. never p.1 is;
       sought = λ is. never p.1 is;
       within = λ is. never p.1 is;
       taken = c.next.ensures.taken;
       closed = c.next.ensures.closed;
-      lowers = rw p.1 tt;
-      units = rw p.1 tt;
+      lowers = if_none _ _ p.1;
+      units = if_none _ _ p.1;
       none = λ is. refl;
-      kept = rw p.1 refl;
-      grows = omega arith;
+      kept = on_err _ refl;
+      grows = le_self _;
       held = c.next.ensures.held;
       bounded = c.requires.bounded;
       all = c.next.ensures.lends.all;
       ended = λ end open_. never p.1 end;
-      told = rw p.1 tt;
+      told = if_none _ _ p.1;
     }
 
 pub returns-in_err-taken : goal.returns-in_err-taken
@@ -88,30 +85,30 @@ returns-in_err-taken g c =
       seen = λ R of b places before fed.
           rw (p.1, p.2) (sees_refused (g.V.UnitView.sees R of) g.V.UnitView.nothing R b places before (feeding c.next.new.self c.accept.new.assembler c.args.units.now) c.in-Some.span _ _ _ (finds b places fed.read)
           c.bytes-unit.ensures (c.in_err-taken.ensures.answer R of before fed.stands) (c.in_ok-look.ensures R of before fed.stands));
-      count = rw p.1 tt;
+      count = on_none _ _ p.1;
       fed = c.next.ensures.lends.fed;
       «open» = λ is. never p.1 is;
       sought = λ is. never p.1 is;
       within = λ is. never p.1 is;
       taken = c.next.ensures.taken;
       closed = c.next.ensures.closed;
-      lowers = rw p.1 tt;
-      units = rw p.1 tt;
+      lowers = if_none _ _ p.1;
+      units = if_none _ _ p.1;
       none = λ is. refl;
-      kept = rw p.1 refl;
-      grows = omega arith;
+      kept = on_err _ refl;
+      grows = le_self _;
       held = c.next.ensures.held;
       bounded = c.accept.ensures.bounded;
       all = c.next.ensures.lends.all;
       ended = λ end open_. never p.1 end;
-      told = rw p.1 tt;
+      told = if_none _ _ p.1;
     }
 
 pub returns-in_err-finish : goal.returns-in_err-finish
 returns-in_err-finish g c =
     let p = err_from_is_err_and c.from_residual-in_err-finish.result c.from_residual-in_err-finish.ensures.1 in
     let finds = rw c.in_default.is at c.in_ok-span.ensures.answer in
-    let some : IsSome c.next.new.self.closed = c.if-is_open.ensures.closed (λ is. absurd (cc)) in
+    let some : IsSome c.next.new.self.closed = c.if-is_open.ensures.closed untrue in
     let new = feeding c.next.new.self c.finish.new.self c.args.units.now in
     record {
       answer = λ R of b places before fed.
@@ -120,23 +117,23 @@ returns-in_err-finish g c =
       seen = λ R of b places before fed.
           rw (p.1, p.2) (sees_end (g.V.UnitView.sees R of) g.V.UnitView.nothing R b places before new _ _ (finds b places fed.read) some (λ failed. c.requires.going (sym c.next.ensures.closed ∙ failed))
           (c.in_err-finish.ensures.answer before fed.stands) c.look_away.ensures);
-      count = rw p.1 tt;
+      count = on_none _ _ p.1;
       fed = c.next.ensures.lends.fed;
       «open» = λ is. never p.1 is;
       sought = λ is. never p.1 is;
       within = λ is. never p.1 is;
       taken = c.next.ensures.taken;
       closed = c.next.ensures.closed;
-      lowers = rw p.1 tt;
-      units = rw p.1 tt;
+      lowers = if_none _ _ p.1;
+      units = if_none _ _ p.1;
       none = λ is. refl;
-      kept = rw p.1 refl;
-      grows = omega arith;
+      kept = on_err _ refl;
+      grows = le_self _;
       held = c.next.ensures.held;
       bounded = c.finish.ensures.bounded;
       all = c.next.ensures.lends.all;
       ended = λ end open_. never p.1 end;
-      told = rw p.1 tt;
+      told = if_none _ _ p.1;
     }
 
 pub returns-in-Some : goal.returns-in-Some
@@ -148,22 +145,22 @@ returns-in-Some g c =
           gives_unit R b places before _ _ c.in-Some.span _ _ fed (finds b places fed.read) c.bytes-unit.ensures (c.in_ok-taken.ensures.answer R of before fed.stands) refl refl;
       seen = λ R of b places before fed.
           sees_unit (g.V.UnitView.sees R of) g.V.UnitView.nothing R b places before _ _ c.in-Some.span _ _ _ fed (finds b places fed.read) c.bytes-unit.ensures (c.in_ok-taken.ensures.answer R of before fed.stands) refl refl (c.in_ok-look.ensures R of before fed.stands);
-      count = omega (arith, falls);
+      count = more_taken _ _ _ falls;
       fed = c.next.ensures.lends.fed;
-      «open» = λ is. absurd (cc);
-      sought = λ is. absurd (cc);
-      within = λ is. absurd (cc);
+      «open» = λ is. given_none is;
+      sought = λ is. given_none is;
+      within = λ is. given_none is;
       taken = c.next.ensures.taken;
       closed = c.next.ensures.closed;
       lowers = lowers_by c.in_ok-taken.taken _ _ falls;
       units = counts_by c.in_ok-taken.taken _ _ refl;
-      none = λ is. absurd (cc);
+      none = λ is. given_none is;
       kept = tt;
-      grows = omega arith;
+      grows = le_more _;
       held = c.next.ensures.held;
       bounded = c.accept.ensures.bounded;
       all = c.next.ensures.lends.all;
-      ended = λ end open_. c.in_ok-taken.ensures.nal (let e = end in cc);
+      ended = λ end open_. c.in_ok-taken.ensures.nal (given_same end);
       told = c.in_ok-taken.ensures.told;
     }
 
@@ -175,7 +172,7 @@ returns-then-is_open g c =
       answer = λ R of b places before fed.
           gives_none R b places before (feeding c.args.reader.now c.args.assembler.now c.args.units.now) (feeding c.next.new.self c.args.assembler.now c.args.units.now) fed (finds b places fed.read) refl refl refl going;
       seen = λ R of b places before fed. c.look_away.ensures;
-      count = omega (arith, c.in_ok-span.ensures.stays);
+      count = as_many _ _ _ c.in_ok-span.ensures.stays;
       fed = c.next.ensures.lends.fed;
       «open» = λ is. going;
       sought = λ is. rw c.in_default.is at c.in_ok-span.ensures.sought;
@@ -186,35 +183,35 @@ returns-then-is_open g c =
       units = tt;
       none = λ is. refl;
       kept = tt;
-      grows = omega arith;
+      grows = le_self _;
       held = c.next.ensures.held;
       bounded = c.requires.bounded;
       all = c.next.ensures.lends.all;
-      ended = λ end open_. absurd (cc);
+      ended = λ end open_. none_is_given end;
       told = tt;
     }
 
 pub returns : goal.returns
 returns g c =
     let finds = rw c.in_default.is at c.in_ok-span.ensures.answer in
-    let some : IsSome c.next.new.self.closed = c.if-is_open.ensures.closed (λ is. absurd (cc)) in
+    let some : IsSome c.next.new.self.closed = c.if-is_open.ensures.closed untrue in
     record {
       answer = λ R of b places before fed.
           gives_end R b places before (feeding c.args.reader.now c.args.assembler.now c.args.units.now) (feeding c.next.new.self c.finish.new.self c.args.units.now) fed (finds b places fed.read) some (λ failed. c.requires.going (sym c.next.ensures.closed ∙ failed))
           (c.in_ok-finish.ensures.answer before fed.stands) (rw c.in_ok-finish.ensures.same fed.stands) refl refl;
       seen = λ R of b places before fed. c.look_away.ensures;
-      count = omega (arith, c.in_ok-span.ensures.stays);
+      count = as_many _ _ _ c.in_ok-span.ensures.stays;
       fed = c.next.ensures.lends.fed;
-      «open» = λ is. absurd (cc);
-      sought = λ is. absurd (cc);
-      within = λ is. absurd (cc);
+      «open» = λ is. given_none is;
+      sought = λ is. given_none is;
+      within = λ is. given_none is;
       taken = c.next.ensures.taken;
       closed = c.next.ensures.closed;
       lowers = c.in_ok-span.ensures.stays;
       units = tt;
       none = λ is. refl;
       kept = tt;
-      grows = omega arith;
+      grows = le_self _;
       held = c.next.ensures.held;
       bounded = c.finish.ensures.bounded;
       all = c.next.ensures.lends.all;

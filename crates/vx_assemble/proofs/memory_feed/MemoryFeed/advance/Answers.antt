@@ -1,23 +1,29 @@
-use Rattle.std.proofs.Common.{◌∙◌, Ok, ap}
+use Rattle.std.proofs.Common.{◌∙◌, Ok, Err, ap}
 use Rattle.std.proofs.lemmas.Result.{err_from_is_err_and}
 use Rattle.vx_assemble.specs.Feed.{Feeding}
 use Rattle.vx_assemble.proofs.InMemory.{seeks_first, seeks_more}
+use Rattle.vx_assemble.proofs.Results.{same_error, never, value_no_error, on_none}
 use Rattle.vx_assemble.proofs.memory_feed.MemoryFeed.advance.Goals as goal
 
 pub loop-step-init : goal.loop-step-init
 loop-step-init c = seeks_first c.args.self.now
 
-pub returns-in_err-step-clause-answer : goal.returns-in_err-step-clause-answer
-returns-in_err-step-clause-answer c R of bytes ps qs ending seen are =
+pub returns-in_err-step : goal.returns-in_err-step
+returns-in_err-step c =
     let p = err_from_is_err_and c.from_residual.result c.from_residual.ensures.1 in
-    rw (p.1, p.2) (c.in_err-step.ensures.answer R of bytes ps qs ending (c.loop-step.invariant.passes R of bytes ps qs ending seen are) are)
-
-pub returns-in_err-step-clause-stopped : goal.returns-in_err-step-clause-stopped
-returns-in_err-step-clause-stopped c first is =
-    let p = err_from_is_err_and c.from_residual.result c.from_residual.ensures.1 in
-    let same = c.loop-step.invariant.stopped first is in
-    let again = c.in_err-step.ensures.stopped first (ap (λ (x : Feeding). x.first) same ∙ is) in
-    (rw (p.1, p.2) (let e = again.0 in cc), again.1 ∙ same)
+    record {
+      answer = λ R of bytes ps qs ending seen are.
+          rw (p.1, p.2) (c.in_err-step.ensures.answer R of bytes ps qs ending (c.loop-step.invariant.passes R of bytes ps qs ending seen are) are);
+      picture = λ is. never p.1 is;
+      going = on_none _ _ p.1;
+      first = rw (p.1, p.2) c.in_err-step.ensures.first;
+      stopped = λ first is.
+          let same = c.loop-step.invariant.stopped first is in
+          let again = c.in_err-step.ensures.stopped first (ap (λ (x : Feeding). x.first) same ∙ is) in
+          (p.1 ∙ ap Err p.2 ∙ same_error again.0, again.1 ∙ same);
+      few = on_none _ _ p.1;
+      bounded = c.step.ensures.bounded;
+    }
 
 pub returns-in-Some-clause-answer : goal.returns-in-Some-clause-answer
 returns-in-Some-clause-answer c R of bytes ps qs ending seen are =
@@ -27,12 +33,11 @@ returns-in-Some-clause-answer c R of bytes ps qs ending seen are =
 pub returns-in-Some-clause-stopped : goal.returns-in-Some-clause-stopped
 returns-in-Some-clause-stopped c first is =
     let same = c.loop-step.invariant.stopped first is in
-    let e = (c.in_ok-step.ensures.stopped first (ap (λ (x : Feeding). x.first) same ∙ is)).0 in
-    absurd (cc)
+    value_no_error (c.in_ok-step.ensures.stopped first (ap (λ (x : Feeding). x.first) same ∙ is)).0
 
 pub loop-step-preserved : goal.loop-step-preserved
 loop-step-preserved c =
-    seeks_more _ _ _ c.loop-step.invariant (rw c.in_default.is at c.in_ok-step.ensures.answer) (λ first is. let e = (c.in_ok-step.ensures.stopped first is).0 in absurd (cc))
+    seeks_more _ _ _ c.loop-step.invariant (rw c.in_default.is at c.in_ok-step.ensures.answer) (λ first is. value_no_error (c.in_ok-step.ensures.stopped first is).0)
 
 pub loop-step-smaller : goal.loop-step-smaller
 loop-step-smaller c = c.in_ok-step.ensures.falls (ap Ok c.in_default.is)
@@ -48,26 +53,3 @@ returns-in-Some-clause-few c = c.in_ok-step.ensures.few
 
 pub returns-in-Some-clause-bounded : goal.returns-in-Some-clause-bounded
 returns-in-Some-clause-bounded c = c.step.ensures.bounded
-
-pub returns-in_err-step-clause-picture : goal.returns-in_err-step-clause-picture
-returns-in_err-step-clause-picture c is =
-    let p = err_from_is_err_and c.from_residual.result c.from_residual.ensures.1 in
-    let e = p.1 in absurd (cc)
-
-pub returns-in_err-step-clause-going : goal.returns-in_err-step-clause-going
-returns-in_err-step-clause-going c =
-    let p = err_from_is_err_and c.from_residual.result c.from_residual.ensures.1 in
-    rw p.1 tt
-
-pub returns-in_err-step-clause-first : goal.returns-in_err-step-clause-first
-returns-in_err-step-clause-first c =
-    let p = err_from_is_err_and c.from_residual.result c.from_residual.ensures.1 in
-    rw (p.1, p.2) c.in_err-step.ensures.first
-
-pub returns-in_err-step-clause-few : goal.returns-in_err-step-clause-few
-returns-in_err-step-clause-few c =
-    let p = err_from_is_err_and c.from_residual.result c.from_residual.ensures.1 in
-    rw p.1 tt
-
-pub returns-in_err-step-clause-bounded : goal.returns-in_err-step-clause-bounded
-returns-in_err-step-clause-bounded c = c.step.ensures.bounded

@@ -1,51 +1,50 @@
-use Rattle.std.proofs.Common.{◌≡◌, Some, None, refl}
+use Rattle.std.proofs.Common.{◌≡◌, ◌<◌, Some, None, refl, subst}
+use Rattle.vx_annexb.specs.Held.{ahead}
+use Rattle.vx_annexb.specs.Reading.{Reading}
 use Rattle.vx_assemble.specs.Memory.{given}
 use Rattle.vx_assemble.specs.inner.Feed.{feeding}
-use Rattle.vx_assemble.proofs.InMemory.{sees_step, sees_stop}
+use Rattle.vx_assemble.proofs.InMemory.{sees_step, sees_stop, picture_by, falls_by}
+use Rattle.vx_assemble.proofs.Results.{error_no_value}
+use Rattle.vx_assemble.proofs.Within.{seen_within, not_stopped, reader_within, few_units}
 use Rattle.vx_assemble.proofs.memory_feed.MemoryFeed.step.Goals as goal
 
-pub returns-in-Ok-clause-answer : goal.returns-in-Ok-clause-answer
-returns-in-Ok-clause-answer c R of bytes ps qs ending seen are =
+pub returns-in-Ok : goal.returns-in-Ok
+returns-in-Ok c =
     let first : c.self.inside.first ≡ None = c.in_default.is in
-    let old = rw first at (rw (← c.self.view_is) at seen) in
-    sees_step R bytes qs ending are _ ps old (given c.take_unit.new.splitter c.self.inside.taken) c.take_unit.new.assembler c.take_unit.new.units c.self.inside.first c.in-Ok.what _
-    first c.step_of.ensures.step c.take_unit.ensures.all (c.in-Ok.ensures.answer R of old.front old.places old.before old.fed) c.step_of.ensures.lends
+    record {
+      answer = λ R of bytes ps qs ending seen are.
+          let old = seen_within _ _ _ _ _ c.self.view_is R bytes ps first seen in
+          sees_step R bytes qs ending are _ ps old (given c.take_unit.new.splitter c.self.inside.taken) c.take_unit.new.assembler c.take_unit.new.units c.self.inside.first c.in-Ok.what _
+          first c.step_of.ensures.step c.take_unit.ensures.all (c.in-Ok.ensures.answer R of old.front old.places old.before old.fed) c.step_of.ensures.lends;
+      picture = λ is. c.step_of.ensures.holds (picture_by c.in-Ok.what _ _ c.step_of.ensures.step refl is);
+      going = first;
+      first = tt;
+      stopped = λ f is. not_stopped _ _ _ _ _ c.self.view_is f first is;
+      falls = λ is.
+          subst (λ (h : Reading). ahead c.take_unit.new.splitter < ahead h.splitter) (reader_within _ _ _ _ _ c.self.view_is)
+          (falls_by c.in-Ok.what _ _ c.step_of.ensures.step refl is c.in-Ok.ensures.falls);
+      few = few_units _ _ _ _ c.in-Ok.ensures.count (c.self.invariant.units first) c.self.invariant.fed;
+      bounded = c.take_unit.ensures.bounded;
+    }
 
-pub returns-in-Err-clause-answer : goal.returns-in-Err-clause-answer
-returns-in-Err-clause-answer c R of bytes ps qs ending seen are =
+pub returns-in-Err : goal.returns-in-Err
+returns-in-Err c =
     let first : c.self.inside.first ≡ None = c.in_default.is in
-    let old = rw first at (rw (← c.self.view_is) at seen) in
-    let reader = given c.take_unit.new.splitter c.self.inside.taken in
-    let new = feeding reader c.take_unit.new.assembler c.take_unit.new.units in
-    let last = record new { first = Some c.first_of.result } in
-    sees_stop R bytes qs ending are _ new ps old c.take_unit.ensures.all last c.in-Err.fault c.in-Err.ensures.kept (c.in-Err.ensures.answer R of old.front old.places old.before old.fed)
+    record {
+      answer = λ R of bytes ps qs ending seen are.
+          let old = seen_within _ _ _ _ _ c.self.view_is R bytes ps first seen in
+          let reader = given c.take_unit.new.splitter c.self.inside.taken in
+          let new = feeding reader c.take_unit.new.assembler c.take_unit.new.units in
+          let last = record new { first = Some c.first_of.result } in
+          sees_stop R bytes qs ending are _ new ps old c.take_unit.ensures.all last c.in-Err.fault c.in-Err.ensures.kept (c.in-Err.ensures.answer R of old.front old.places old.before old.fed);
+      picture = λ is. error_no_value is;
+      going = tt;
+      first = rw c.first_of.ensures refl;
+      stopped = λ f is. not_stopped _ _ _ _ _ c.self.view_is f first is;
+      falls = λ is. error_no_value is;
+      few = tt;
+      bounded = c.take_unit.ensures.bounded;
+    }
 
-pub returns-in-Ok-clause-going : goal.returns-in-Ok-clause-going
-returns-in-Ok-clause-going c = c.in_default.is
-
-pub returns-in-Ok-clause-stopped : goal.returns-in-Ok-clause-stopped
-returns-in-Ok-clause-stopped c f is =
-    let first : c.self.inside.first ≡ None = c.in_default.is in
-    let some = rw first at (rw (← c.self.view_is) at is) in
-    absurd (cc)
-
-pub returns-in-Ok-clause-bounded : goal.returns-in-Ok-clause-bounded
-returns-in-Ok-clause-bounded c = c.take_unit.ensures.bounded
-
-pub returns-in-Err-clause-picture : goal.returns-in-Err-clause-picture
-returns-in-Err-clause-picture c is = absurd (cc)
-
-pub returns-in-Err-clause-first : goal.returns-in-Err-clause-first
-returns-in-Err-clause-first c = rw c.first_of.ensures refl
-
-pub returns-in-Err-clause-stopped : goal.returns-in-Err-clause-stopped
-returns-in-Err-clause-stopped c f is =
-    let first : c.self.inside.first ≡ None = c.in_default.is in
-    let some = rw first at (rw (← c.self.view_is) at is) in
-    absurd (cc)
-
-pub returns-in-Err-clause-falls : goal.returns-in-Err-clause-falls
-returns-in-Err-clause-falls c is = absurd (cc)
-
-pub returns-in-Err-clause-bounded : goal.returns-in-Err-clause-bounded
-returns-in-Err-clause-bounded c = c.take_unit.ensures.bounded
+pub returns-in-Some-clause-bounded : goal.returns-in-Some-clause-bounded
+returns-in-Some-clause-bounded c = rw (← c.self.view_is) c.self.invariant.bounded

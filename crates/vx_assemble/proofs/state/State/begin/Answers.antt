@@ -5,16 +5,26 @@ use Rattle.vx_assemble.proofs.Beginnings.{id_refused, sets_refused, header_refus
 use Rattle.vx_assemble.proofs.InForce.{makes}
 use Rattle.vx_assemble.proofs.state.State.begin.Goals as goal
 
-pub returns-in_err-id-clause-answer : goal.returns-in_err-id-clause-answer
-returns-in_err-id-clause-answer c R h before held =
+pub returns-in_err-id : goal.returns-in_err-id
+returns-in_err-id c =
     let p = err_from_is_err_and c.from_residual.result c.from_residual.ensures.1 in
-    rw (p.1, p.2) (id_refused R c.args.self.now before c.args.inside c.args.unit.bytes.now c.args.unit.rbsp.now _ held c.args.unit.spells (c.in_err-id.ensures R h))
+    record {
+      answer = λ R h before held.
+          rw (p.1, p.2) (id_refused R c.args.self.now before c.args.inside c.args.unit.bytes.now c.args.unit.rbsp.now _ held c.args.unit.spells (c.in_err-id.ensures R h));
+      header = rw p.1 tt;
+      stored = rw p.1 tt;
+    }
 
-pub returns-in_err-sets-clause-answer : goal.returns-in_err-sets-clause-answer
-returns-in_err-sets-clause-answer c R h before held =
+pub returns-in_err-sets : goal.returns-in_err-sets
+returns-in_err-sets c =
     let p = err_from_is_err_and c.from_residual-in_err-sets.result c.from_residual-in_err-sets.ensures.1 in
-    rw (p.1, p.2) (sets_refused R c.args.self.now before c.args.inside c.args.unit.bytes.now c.args.unit.rbsp.now c.in_ok-id.id _ held c.args.unit.spells
-    (c.in_ok-id.ensures R h) (c.in_err-sets.ensures.answer R h))
+    record {
+      answer = λ R h before held.
+          rw (p.1, p.2) (sets_refused R c.args.self.now before c.args.inside c.args.unit.bytes.now c.args.unit.rbsp.now c.in_ok-id.id _ held c.args.unit.spells
+          (c.in_ok-id.ensures R h) (c.in_err-sets.ensures.answer R h));
+      header = rw p.1 tt;
+      stored = rw p.1 tt;
+    }
 
 pub returns-in_err-header-clause-answer : goal.returns-in_err-header-clause-answer
 returns-in_err-header-clause-answer c R h before held =
@@ -44,3 +54,16 @@ returns-clause-answer c R h before held =
     ∙ c.in_ok-header.ensures.answer R h)
     refl refl
     (ap (λ x. x.temporal_id) c.args.unit.heads)
+
+pub returns-in_err-header-clause-header : goal.returns-in_err-header-clause-header
+returns-in_err-header-clause-header c =
+    let p = err_from_is_err_and c.from_residual-in_err-header.result c.from_residual-in_err-header.ensures.1 in
+    rw p.1 tt
+
+pub returns-in_err-header-clause-stored : goal.returns-in_err-header-clause-stored
+returns-in_err-header-clause-stored c =
+    let p = err_from_is_err_and c.from_residual-in_err-header.result c.from_residual-in_err-header.ensures.1 in
+    rw p.1 tt
+
+pub returns-clause-stored : goal.returns-clause-stored
+returns-clause-stored c = c.in_ok-sets.ensures.sets
