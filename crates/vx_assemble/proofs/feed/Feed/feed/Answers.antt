@@ -1,4 +1,6 @@
-use Rattle.std.proofs.Common.{refl}
+use Rattle.std.proofs.Common.{◌∙◌, refl, length, ap}
+use Rattle.vx_annexb.specs.Reading.{Reading, fed_at_once}
+use Rattle.vx_assemble.proofs.Within.{reader_within}
 use Rattle.vx_assemble.proofs.Feeding.{feeds_more, few_bytes}
 use Rattle.vx_assemble.proofs.feed.Feed.feed.Goals as goal
 
@@ -63,3 +65,19 @@ returns-in-Err-clause-going c = tt
 
 pub returns-in-Err-clause-first : goal.returns-in-Err-clause-first
 returns-in-Err-clause-first c = refl
+
+pub returns-in-Ok-clause-count : goal.returns-in-Ok-clause-count
+returns-in-Ok-clause-count c =
+    c.in-Ok.ensures.count ∙ ap (λ (h : Reading). fed_at_once h.taken (length c.args.piece.now)) (reader_within _ _ _ _ _ c.self.view_is)
+
+pub returns-in-Ok-clause-few : goal.returns-in-Ok-clause-few
+returns-in-Ok-clause-few c = c.in-Ok.ensures.few
+
+pub returns-in-Ok-clause-whole : goal.returns-in-Ok-clause-whole
+returns-in-Ok-clause-whole c open_ = c.in-Ok.ensures.whole open_.reader
+
+pub returns-in-Ok-clause-within : goal.returns-in-Ok-clause-within
+returns-in-Ok-clause-within c = c.feed.ensures.within
+
+pub returns-in-Err-clause-within : goal.returns-in-Err-clause-within
+returns-in-Err-clause-within c = c.feed.ensures.within

@@ -1,5 +1,7 @@
-use Rattle.std.proofs.Common.{Err, refl, ap}
+use Rattle.std.proofs.Common.{◌<◌, Err, refl, ap, subst}
+use Rattle.vx_annexb.specs.Reading.{Reading}
 use Rattle.vx_assemble.proofs.Feeding.{few_bytes, reads_more, unended}
+use Rattle.vx_assemble.proofs.Within.{reader_within}
 use Rattle.vx_annexb.specs.declared.unit_reader.ReadFault.{ReadFault}
 use Rattle.vx_assemble.proofs.feed.Feed.read.Goals as goal
 
@@ -62,3 +64,16 @@ returns-in-Err-clause-grows g c = tt
 
 pub returns-in-Err-clause-end : goal.returns-in-Err-clause-end
 returns-in-Err-clause-end g c = tt
+
+pub returns-in-Ok-clause-grows : goal.returns-in-Ok-clause-grows
+returns-in-Ok-clause-grows g c open_ =
+    subst (λ (h : Reading). h.taken < c.read.new.self.taken) (reader_within _ _ _ _ _ c.self.view_is) (c.in-Ok.ensures.grows open_.reader)
+
+pub returns-in-Ok-clause-within : goal.returns-in-Ok-clause-within
+returns-in-Ok-clause-within g c = c.in-Ok.ensures.within
+
+pub returns-in-Ok-clause-end : goal.returns-in-Ok-clause-end
+returns-in-Ok-clause-end g c = c.in-Ok.ensures.end
+
+pub returns-in-Err-clause-within : goal.returns-in-Err-clause-within
+returns-in-Err-clause-within g c = c.in-Err.ensures.within

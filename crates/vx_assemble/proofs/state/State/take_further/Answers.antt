@@ -1,4 +1,4 @@
-use Rattle.std.proofs.Common.{ap, refl, length}
+use Rattle.std.proofs.Common.{ap, refl}
 use Rattle.std.proofs.lemmas.Result.{err_from_is_err_and}
 use Rattle.vx_assemble.specs.inner.Held.{header_at, kind_at}
 use Rattle.vx_assemble.proofs.KeptPicture.{header_is}
