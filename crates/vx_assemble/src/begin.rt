@@ -17,7 +17,7 @@ use crate::state::{BegunPicture, MadeSets, State};
 use crate::unit::{NalUnit, SliceUnit};
 use std::alloc::{AllocError, Global};
 use vx_annexb::unescape;
-use vx_bits::ReadError;
+use vx_bits::{Bytes, ReadError};
 use vx_pic::{PPS, SPS};
 use vx_pps::Pps;
 use vx_sps::Sps;
@@ -29,6 +29,29 @@ pub(crate) struct SetPair {
     pub sps: Shared<Sps>,
     /// The PPS.
     pub pps: Shared<Pps>,
+}
+
+/// What is kept of a picture that begins: the sets of its header, and the bytes of its PH unit.
+///
+/// # Errors
+///
+/// Where memory runs out.
+fn kept_of(
+    alloc: Global,
+    begun: &BegunPicture,
+    unit: &[u8],
+) -> Result<(MadeSets, Bytes), AllocError>
+    ensures sets { IfOk result (λ kept. kept.0 ≡ record { id = begun.now.pps_id; sets = begun.now.sets }) }
+    ensures bytes { IfOk result (λ kept. kept.1 ≡ unit.now) }
+{
+    let mut bytes = Bytes::new(alloc);
+    bytes.extend_from_slice(unit)?;
+    let sets = begun.sets.share()?;
+    let made = MadeSets {
+        id: begun.pps_id,
+        sets,
+    };
+    Ok((made, bytes))
 }
 
 impl State {
@@ -165,11 +188,10 @@ impl State {
         ensures ok { OnOk result (self.new ≡ changes.with_begun begun unit.now self.old) }
         ensures err { OnErr result (self.new ≡ self.old) }
     {
-        let id = begun.pps_id;
-        let unchanged = self.unchanged && self.has_made(id);
-        let sets = begun.sets.share()?;
-        self.picture.start(alloc, begun, unit)?;
-        self.made = Some(MadeSets { id, sets });
+        let unchanged = self.unchanged && self.has_made(begun.pps_id);
+        let (made, bytes) = kept_of(alloc, &begun, unit)?;
+        self.picture.start(alloc, begun, bytes);
+        self.made = Some(made);
         self.unchanged = unchanged;
         Ok(())
     }

@@ -44,27 +44,14 @@ impl CurrentPicture {
         }
     }
 
-    /// Begins it with a header that came in this PH unit, or in none.
-    ///
-    /// # Errors
-    ///
-    /// Where memory runs out, and all is then as it was.
-    pub(crate) fn start(
-        &mut self,
-        alloc: Global,
-        begun: BegunPicture,
-        unit: &[u8],
-    ) -> Result<(), AllocError>
-        ensures ok { OnOk result (self.new ≡ changes.with_header begun unit.now self.old) }
-        ensures err { OnErr result (self.new ≡ self.old) }
+    /// Begins it with a header that came in the PH unit of these bytes, or in none.
+    pub(crate) fn start(&mut self, alloc: Global, begun: BegunPicture, bytes: Bytes)
+        ensures { self.new ≡ changes.with_header begun bytes self.old }
     {
-        let mut bytes = Bytes::new(alloc);
-        bytes.extend_from_slice(unit)?;
+        self.header_end = bytes.len();
         drop(replace(&mut self.stage, Stage::Headed(begun)));
         drop(replace(&mut self.bytes, bytes));
-        self.header_end = unit.len();
         drop(replace(&mut self.slices, SliceSlots::new(alloc)));
-        Ok(())
     }
 
     /// Sets what it is, where its header came, its adaptation parameter sets, and its messages, before its first slice.
