@@ -15,6 +15,7 @@ pub mod Layouts
 pub mod Passing
 pub mod Reading
 pub mod SameSets
+pub mod Seeking
 pub mod Sized
 pub mod Sources
 pub mod Verdicts

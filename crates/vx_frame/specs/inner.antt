@@ -6,4 +6,5 @@ pub mod Frames
 pub mod Gathered
 pub mod Geometry
 pub mod Known
+pub mod Sought
 pub mod Tools

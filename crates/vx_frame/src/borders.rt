@@ -10,7 +10,8 @@ ghost use Rattle.vx_frame.specs.inner.Borders as borders;
 ghost use Rattle.vx_frame.specs.inner.Found.{Finds};
 ghost use Rattle.vx_frame.specs.inner.Gathered.{IsLowestWith};
 
-use crate::told::{lowest_of, of_source};
+use crate::sought::{Sought, lowest_with};
+use crate::told::of_source;
 use vx_bits::Refusal;
 use vx_bits::rules::FILTER_FLAGS;
 use vx_fields::pps::{
@@ -40,7 +41,12 @@ fn crosses(picture: &Picture<'_>, pieces: Pieces) -> bool
 }
 
 /// Whether a source has several.
-fn has_several(_round: &[Picture<'_>], layouts: &[Numbers], pieces: Pieces, k: usize) -> bool
+pub(crate) fn has_pieces(
+    _round: &[Picture<'_>],
+    layouts: &[Numbers],
+    pieces: Pieces,
+    k: usize,
+) -> bool
     requires layouts { layouts.now ≡ regions.layouts_in _round.now }
     requires k { k < length _round.now }
     ensures { result ≡ borders.has_several pieces (picture_at _round.now k) }
@@ -52,13 +58,12 @@ fn has_several(_round: &[Picture<'_>], layouts: &[Numbers], pieces: Pieces, k: u
 }
 
 /// The lowest source with several.
-#[tactic(auto, using(crate::proofs::FirstTold::lowest_told))]
 fn lowest_with_several(round: &[Picture<'_>], layouts: &[Numbers], pieces: Pieces) -> Option<u16>
     requires few { length round.now ≤ 64 }
     requires layouts { layouts.now ≡ regions.layouts_in round.now }
     ensures { IsLowestWith (borders.has_several pieces) round.now result }
 {
-    lowest_of(round.len(), |k| has_several(round, layouts, pieces, k))
+    lowest_with(round, Sought::Several { pieces, layouts })
 }
 
 /// Whether in-loop filters cross their borders in the lowest picture with several.
@@ -74,7 +79,7 @@ pub(crate) fn lowest_crosses(round: &[Picture<'_>], layouts: &[Numbers], pieces:
 }
 
 /// Whether a source has several, and filters cross their borders otherwise than in the lowest source with several.
-fn crosses_otherwise(
+pub(crate) fn crosses_otherwise(
     round: &[Picture<'_>],
     layouts: &[Numbers],
     pieces: Pieces,
@@ -90,7 +95,7 @@ fn crosses_otherwise(
     let Some(j) = lowest else {
         return false;
     };
-    if !has_several(round, layouts, pieces, k) {
+    if !has_pieces(round, layouts, pieces, k) {
         return false;
     }
     crosses(&round[k], pieces) != crosses(&round[usize::from(j)], pieces)
@@ -104,10 +109,14 @@ fn lowest_crossed_otherwise(round: &[Picture<'_>], layouts: &[Numbers]) -> Optio
 {
     let tiles = lowest_with_several(round, layouts, Pieces::Tiles);
     let slices = lowest_with_several(round, layouts, Pieces::Slices);
-    lowest_of(round.len(), |k| {
-        crosses_otherwise(round, layouts, Pieces::Tiles, tiles, k)
-            || crosses_otherwise(round, layouts, Pieces::Slices, slices, k)
-    })
+    lowest_with(
+        round,
+        Sought::OtherFlags {
+            tiles,
+            slices,
+            layouts,
+        },
+    )
 }
 
 /// Whether filters cross borders in one source otherwise than in another.

@@ -14,7 +14,8 @@ ghost use Rattle.vx_frame.specs.inner.Gathered.{AreGathered, IsLowestWith};
 
 use crate::bodies::RoundBodies;
 use crate::items::same_items;
-use crate::told::{Differing, lowest_of, lowest_source, lowest_unlike, of_field, of_source};
+use crate::sought::{Sought, lowest_with};
+use crate::told::{Differing, of_field, of_source};
 use std::alloc::{AllocError, Global};
 use vx_aps::{LMCS, SCALING};
 use vx_bits::rules::{PICTURE_HEADER, PICTURE_KIND, REFERENCE_LISTS, SHARED_SETS};
@@ -34,7 +35,7 @@ use vx_sh::SliceHeader;
 // ---- the kind
 
 /// Whether two pictures are of one type and TemporalId, and both behind an end of sequence or neither.
-fn same_kind(a: &Picture<'_>, b: &Picture<'_>) -> bool
+pub(crate) fn same_kind(a: &Picture<'_>, b: &Picture<'_>) -> bool
     ensures same { OnTrue result (rules.shared_kind a.now ≡ rules.shared_kind b.now) }
     ensures other { OnFalse result (rules.shared_kind a.now ≢ rules.shared_kind b.now) }
 {
@@ -49,12 +50,11 @@ fn same_kind(a: &Picture<'_>, b: &Picture<'_>) -> bool
 }
 
 /// The lowest source whose picture is of another kind than source 0's.
-#[tactic(auto, using(crate::proofs::FirstTold::lowest_told))]
 fn lowest_other_kind(round: &[Picture<'_>]) -> Option<u16>
     requires { (0 < length round.now) × (length round.now ≤ 64) }
     ensures { IsLowestAnswer (length round.now) (UnlikeFirst rules.shared_kind round.now) result }
 {
-    lowest_unlike(round, same_kind)
+    lowest_with(round, Sought::OtherKind)
 }
 
 /// Whether a source's picture is of another kind than source 0's.
@@ -115,21 +115,19 @@ pub fn scaling_body<'a>(picture: &Picture<'a>) -> Option<&'a [u8]>
 }
 
 /// The lowest source whose header has LMCS.
-#[tactic(auto, using(crate::proofs::FirstTold::lowest_told))]
 pub(crate) fn lowest_with_lmcs(round: &[Picture<'_>]) -> Option<u16>
     requires { length round.now ≤ 64 }
     ensures { IsLowestWith bodies.has_lmcs round.now result }
 {
-    lowest_source(round, has_lmcs)
+    lowest_with(round, Sought::Lmcs)
 }
 
 /// The lowest source whose header has scaling lists.
-#[tactic(auto, using(crate::proofs::FirstTold::lowest_told))]
 pub(crate) fn lowest_with_scaling(round: &[Picture<'_>]) -> Option<u16>
     requires { length round.now ≤ 64 }
     ensures { IsLowestWith bodies.has_scaling round.now result }
 {
-    lowest_source(round, has_scaling)
+    lowest_with(round, Sought::Scaling)
 }
 
 /// Whether a source has LMCS, and scales chroma residuals otherwise than the lowest one that has it.
@@ -142,14 +140,15 @@ fn scales_otherwise(round: &[Picture<'_>], lowest: Option<u16>, k: usize) -> boo
     let Some(j) = lowest else {
         return false;
     };
-    if !has_lmcs(&round[k]) {
+    let picture = &round[k];
+    if !has_lmcs(picture) {
         return false;
     }
-    is_chroma_scaled(&round[k]) != is_chroma_scaled(&round[usize::from(j)])
+    is_chroma_scaled(picture) != is_chroma_scaled(&round[usize::from(j)])
 }
 
 /// Whether a source has LMCS, and another than the lowest one that has it.
-fn has_other_lmcs(round: &[Picture<'_>], lowest: Option<u16>, k: usize) -> bool
+pub(crate) fn has_other_lmcs(round: &[Picture<'_>], lowest: Option<u16>, k: usize) -> bool
     requires k { k < length round.now }
     requires lowest { IsLowestWith bodies.has_lmcs round.now lowest }
     ensures unlike { OnTrue result (UnlikeLowest bodies.has_lmcs bodies.lmcs_body round.now k) }
@@ -158,14 +157,15 @@ fn has_other_lmcs(round: &[Picture<'_>], lowest: Option<u16>, k: usize) -> bool
     let Some(j) = lowest else {
         return false;
     };
-    if !has_lmcs(&round[k]) {
+    let picture = &round[k];
+    if !has_lmcs(picture) {
         return false;
     }
-    !same_body(lmcs_body(&round[k]), lmcs_body(&round[usize::from(j)]))
+    !same_body(lmcs_body(picture), lmcs_body(&round[usize::from(j)]))
 }
 
 /// Whether a source has scaling lists, and others than the lowest one that has them.
-fn has_other_scaling(round: &[Picture<'_>], lowest: Option<u16>, k: usize) -> bool
+pub(crate) fn has_other_scaling(round: &[Picture<'_>], lowest: Option<u16>, k: usize) -> bool
     requires k { k < length round.now }
     requires lowest { IsLowestWith bodies.has_scaling round.now lowest }
     ensures unlike { OnTrue result (UnlikeLowest bodies.has_scaling bodies.scaling_body round.now k) }
@@ -174,13 +174,11 @@ fn has_other_scaling(round: &[Picture<'_>], lowest: Option<u16>, k: usize) -> bo
     let Some(j) = lowest else {
         return false;
     };
-    if !has_scaling(&round[k]) {
+    let picture = &round[k];
+    if !has_scaling(picture) {
         return false;
     }
-    !same_body(
-        scaling_body(&round[k]),
-        scaling_body(&round[usize::from(j)]),
-    )
+    !same_body(scaling_body(picture), scaling_body(&round[usize::from(j)]))
 }
 
 // ---- the header
@@ -312,9 +310,7 @@ fn lowest_other_sets(round: &[Picture<'_>], lmcs: Option<u16>, scaling: Option<u
     requires scaling { IsLowestWith bodies.has_scaling round.now scaling }
     ensures { IsLowestAnswer (length round.now) (rules.shared_sets round.now).breaks result }
 {
-    lowest_of(round.len(), |k| {
-        has_other_lmcs(round, lmcs, k) || has_other_scaling(round, scaling, k)
-    })
+    lowest_with(round, Sought::OtherSets { lmcs, scaling })
 }
 
 /// Whether a source has other LMCS or scaling lists.
@@ -350,7 +346,7 @@ fn first_lists<'a>(picture: &Picture<'a>) -> &'a RefLists
 }
 
 /// Whether the first slices of two pictures have the same reference picture lists.
-fn same_first_lists(a: &Picture<'_>, b: &Picture<'_>) -> bool
+pub(crate) fn same_first_lists(a: &Picture<'_>, b: &Picture<'_>) -> bool
     ensures same { OnTrue result (rules.first_lists a.now ≡ rules.first_lists b.now) }
     ensures other { OnFalse result (rules.first_lists a.now ≢ rules.first_lists b.now) }
 {
@@ -361,12 +357,11 @@ fn same_first_lists(a: &Picture<'_>, b: &Picture<'_>) -> bool
 }
 
 /// The lowest source whose first slice has other lists than source 0's.
-#[tactic(auto, using(crate::proofs::FirstTold::lowest_told))]
 fn lowest_other_lists(round: &[Picture<'_>]) -> Option<u16>
     requires { (0 < length round.now) × (length round.now ≤ 64) }
     ensures { IsLowestAnswer (length round.now) (UnlikeFirst rules.first_lists round.now) result }
 {
-    lowest_unlike(round, same_first_lists)
+    lowest_with(round, Sought::OtherLists)
 }
 
 /// Whether a source's first slice has other lists than source 0's.

@@ -22,6 +22,7 @@ mod regions;
 mod sets;
 mod shapes;
 mod slices;
+mod sought;
 mod sound;
 mod told;
 mod verdict;

@@ -11,7 +11,8 @@ ghost use Rattle.vx_frame.specs.Rules as rules;
 ghost use Rattle.vx_frame.specs.inner.Found.{Finds, IsLowestField, TellsField};
 ghost use Rattle.vx_frame.specs.inner.Tools as tools;
 
-use crate::told::{Differing, lowest_source, of_field, of_source};
+use crate::sought::{Sought, lowest_with};
+use crate::told::{Differing, of_field, of_source};
 use std::alloc::{AllocError, Global};
 use vx_bits::rules::{PPS_TOOLS, SEVERAL_SUBPICTURES, SPS_TOOLS};
 use vx_bits::{Fields, Refusal};
@@ -34,7 +35,7 @@ const PROFILE: [u16; 4] = [
 // ---- several subpictures
 
 /// Whether a picture has several subpictures.
-fn has_several(picture: &Picture<'_>) -> bool
+pub(crate) fn has_several(picture: &Picture<'_>) -> bool
     ensures several { OnTrue result (1 < subpics_of picture.now.sps) }
     ensures alone { OnFalse result (¬ (1 < subpics_of picture.now.sps)) }
 {
@@ -42,12 +43,11 @@ fn has_several(picture: &Picture<'_>) -> bool
 }
 
 /// The lowest source with several subpictures.
-#[tactic(auto, using(crate::proofs::FirstTold::lowest_told))]
 fn lowest_several(round: &[Picture<'_>]) -> Option<u16>
     requires { length round.now ≤ 64 }
     ensures { IsLowestAnswer (length round.now) (λ k. 1 < subpics_of (picture_at round.now k).sps) result }
 {
-    lowest_source(round, has_several)
+    lowest_with(round, Sought::Subpictures)
 }
 
 /// Whether a source has several subpictures.

@@ -9,7 +9,8 @@ ghost use Rattle.vx_frame.specs.Rules as rules;
 ghost use Rattle.vx_frame.specs.inner.Found.{Finds, piece_at};
 
 use crate::collocated::{Collocated, collocated_of, may_name, names_one};
-use crate::told::{lowest_source, of_source};
+use crate::sought::{Sought, lowest_with};
+use crate::told::of_source;
 use vx_bits::Refusal;
 use vx_bits::rules::{COLLOCATED, OUTPUT_OF_PRIOR};
 use vx_fields::sh::sh_no_output_of_prior_pics_flag;
@@ -157,7 +158,7 @@ fn is_other(named: Option<Collocated>, first: Option<Collocated>) -> bool
 }
 
 /// Whether a slice of a picture names another one.
-fn names_other(picture: &Picture<'_>, first: Option<Collocated>) -> bool
+pub(crate) fn names_other(picture: &Picture<'_>, first: Option<Collocated>) -> bool
     ensures unlike { OnTrue result (SomeUnlike (words.collocated picture.now) first) }
     ensures alike { OnFalse result (AllByRecursion (λ x. first ≡ Some x) (words.collocated picture.now)) }
 {
@@ -171,13 +172,12 @@ fn names_other(picture: &Picture<'_>, first: Option<Collocated>) -> bool
 }
 
 /// The lowest source of which a slice names another one than the first of all.
-#[tactic(auto, using(crate::proofs::FirstTold::lowest_told))]
 fn lowest_other_collocated(round: &[Picture<'_>]) -> Option<u16>
     requires { length round.now ≤ 64 }
     ensures { IsLowestAnswer (length round.now) (SomeUnlikeFirst words.collocated round.now) result }
 {
     let first = first_of_all(round);
-    lowest_source(round, |picture| names_other(picture, first))
+    lowest_with(round, Sought::OtherCollocated(first))
 }
 
 /// Whether slices name different collocated pictures.

@@ -1,6 +1,6 @@
 //! The lowest source that breaks a rule, and what is told of it.
-ghost use Rattle.std.specs.Prelude.{◌≡◌, ℕ, ◌<◌, ◌≤◌, length, not};
-ghost use Rattle.std.specs.Fn.{FnReturnsAt, FnReturnsAtPair};
+ghost use Rattle.std.specs.Prelude.{◌≡◌, ℕ, ◌<◌, ◌≤◌, length};
+ghost use Rattle.std.specs.Fn.{FnReturnsAt};
 ghost use Rattle.vx_frame.specs.Rounds.{picture_at};
 ghost use Rattle.vx_frame.specs.inner.Found as found;
 
@@ -38,23 +38,6 @@ pub fn lowest_source<F: Fn(&Picture<'_>) -> bool>(round: &[Picture<'_>], holds: 
 {
     for k in 0..round.len() {
         if holds(&round[k]) {
-            return Some(k as u16);
-        }
-    }
-    None
-}
-
-/// The lowest source whose picture isn't like source 0's, as a test tells it.
-pub(crate) fn lowest_unlike<F: Fn(&Picture<'_>, &Picture<'_>) -> bool>(
-    round: &[Picture<'_>],
-    alike: F,
-) -> Option<u16>
-    requires count { (0 < length round.now) × (length round.now ≤ 65536) }
-    requires may { F.IsAlwaysCallable alike }
-    ensures { found.IsFirstTold (length round.now) (λ k unlike. FnReturnsAtPair F.Fn alike (picture_at round.now k) (picture_at round.now 0) (not unlike)) result }
-{
-    for k in 0..round.len() {
-        if !alike(&round[k], &round[0]) {
             return Some(k as u16);
         }
     }

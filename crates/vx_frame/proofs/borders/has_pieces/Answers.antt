@@ -1,7 +1,7 @@
 use Rattle.std.proofs.Common.{ap, ◌∙◌}
 use Rattle.vx_pic.specs.Inputs.{has_several_slices, has_several_tiles}
 use Rattle.vx_frame.proofs.Layouts.{layout_read}
-use Rattle.vx_frame.proofs.borders.has_several.Goals as goal
+use Rattle.vx_frame.proofs.borders.has_pieces.Goals as goal
 
 pub returns-in-Tiles : goal.returns-in-Tiles
 returns-in-Tiles c =
