@@ -1,7 +1,6 @@
 //! The bodies of adaptive loop filters that slices have in force.
-ghost use Rattle.std.specs.Prelude.{◌≡◌, ◌<◌, ◌≤◌, ◌∷◌, [], List, None, length, map, option_copied, option_to_list, IfOk, OnOk};
+ghost use Rattle.std.specs.Prelude.{◌≡◌, ◌<◌, ◌≤◌, ◌∷◌, [], List, length, map, option_copied, option_to_list, IfOk, OnOk};
 ghost use Rattle.std.specs.Bool.{OnTrue, OnFalse};
-ghost use Rattle.vx_fit.specs.Lowest.{IsLowestAnswer};
 ghost use Rattle.vx_pic.specs.Inputs.{alf_of};
 ghost use Rattle.vx_pic.specs.Parts.{Parts};
 ghost use Rattle.vx_pic.specs.Resident as resident;
@@ -133,27 +132,6 @@ fn are_too_many(bodies: &BodyList<'_>) -> bool
     MOST_FILTERS < bodies.len()
 }
 
-/// Adds those of a round's pictures to none: of all, or up to the lowest source with which there are too many, which
-/// it answers.
-fn add_round<'a>(
-    alloc: Global,
-    bodies: &mut BodyList<'a>,
-    round: &[Picture<'a>],
-) -> Result<Option<u16>, AllocError>
-    requires none { bodies.old ≡ [] }
-    requires few { length round.now ≤ 64 }
-    ensures many { IfOk result (IsLowestAnswer (length round.now) (rules.too_many_filters round.now).breaks) }
-    ensures all { IfOk result (λ many. many ≡ None → map (λ b. b.now) bodies.new ≡ words.alf_bodies round.now) }
-{
-    for k in 0..round.len() {
-        add_picture(alloc, bodies, &round[k])?;
-        if are_too_many(bodies) {
-            return Ok(Some(k as u16));
-        }
-    }
-    Ok(None)
-}
-
 /// The bodies of the adaptive loop filters in force in the slices of a round.
 pub(crate) fn round_filters<'a>(
     alloc: Global,
@@ -163,8 +141,19 @@ pub(crate) fn round_filters<'a>(
     ensures { IfOk result (AreFilters round.now) }
 {
     let mut bodies = BodyList::new(alloc);
-    let too_many = add_round(alloc, &mut bodies, round)?;
-    Ok(RoundFilters { bodies, too_many })
+    for k in 0..round.len() {
+        add_picture(alloc, &mut bodies, &round[k])?;
+        if are_too_many(&bodies) {
+            return Ok(RoundFilters {
+                bodies,
+                too_many: Some(k as u16),
+            });
+        }
+    }
+    Ok(RoundFilters {
+        bodies,
+        too_many: None,
+    })
 }
 
 /// Whether the slices of a round with these filters have more bodies of adaptive loop filters than there are ids.
