@@ -42,8 +42,7 @@ fn slice_front(
     let filter = filter_in(alloc, &needed.alf, picture, slice.header)?;
     let shape = slice_shape(&round[0], picture, k as u32, slice.header, &filter);
     let bytes = sender.send(alloc, slice.header, &shape)?;
-    let unit = plain_unit(alloc, kind.nal_type, kind.temporal_id, &bytes)?;
-    Ok(unit)
+    plain_unit(alloc, kind.nal_type, kind.temporal_id, &bytes)
 }
 
 /// Appends those of source k.

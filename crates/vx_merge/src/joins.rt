@@ -1,5 +1,5 @@
 //! The rule on pictures that are joined behind others.
-ghost use Rattle.std.specs.Prelude.{◌≡◌, ◌≤◌, ◌∷◌, [], length};
+ghost use Rattle.std.specs.Prelude.{◌≡◌, ◌≤◌, ◌∷◌, [], cond, length};
 ghost use Rattle.std.specs.Bool.{OnTrue, OnFalse};
 ghost use Rattle.vx_fit.specs.Lowest.{IsLowestAnswer};
 ghost use Rattle.vx_frame.specs.inner.Found.{Finds};
@@ -12,19 +12,19 @@ use vx_fields::ph::ph_non_ref_pic_flag;
 use vx_frame::{lowest_source, of_source};
 use vx_pic::{Picture, number_of};
 
-/// Whether a picture may come first behind a join.
-fn can_start(picture: &Picture<'_>) -> bool
-    ensures can { OnTrue result (CanStart picture.now) }
-    ensures cannot { OnFalse result (¬ CanStart picture.now) }
+/// Whether a picture may not come first behind a join.
+fn cannot_start(picture: &Picture<'_>) -> bool
+    ensures cannot { OnTrue result (¬ CanStart picture.now) }
+    ensures can { OnFalse result (CanStart picture.now) }
 {
     let kind = picture.kind();
     if !kind.clvss {
-        return false;
+        return true;
     }
     if kind.temporal_id != 0 {
-        return false;
+        return true;
     }
-    number_of(&picture.header().fields, ph_non_ref_pic_flag) == 0
+    number_of(&picture.header().fields, ph_non_ref_pic_flag) != 0
 }
 
 /// The lowest source whose picture may not.
@@ -33,13 +33,24 @@ fn lowest_unable(round: &[Picture<'_>]) -> Option<u16>
     requires { length round.now ≤ 64 }
     ensures { IsLowestAnswer (length round.now) (words.join_start round.now).breaks result }
 {
-    lowest_source(round, |picture| !can_start(picture))
+    lowest_source(round, cannot_start)
 }
 
 /// Whether the pictures of a round can't be joined behind others.
-pub(crate) fn join_start(round: &[Picture<'_>]) -> Option<Refusal>
+fn join_start(round: &[Picture<'_>]) -> Option<Refusal>
     requires { length round.now ≤ 64 }
     ensures { Finds (length round.now) (words.join_start round.now ∷ []) result }
 {
     of_source(JOIN_START, lowest_unable(round))
+}
+
+/// Whether they can't be, where they are to be joined.
+pub(crate) fn join_refusal(joins: bool, round: &[Picture<'_>]) -> Option<Refusal>
+    requires { length round.now ≤ 64 }
+    ensures { Finds (length round.now) (cond joins (words.join_start round.now ∷ []) []) result }
+{
+    if joins {
+        return join_start(round);
+    }
+    None
 }

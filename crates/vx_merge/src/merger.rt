@@ -3,12 +3,11 @@ ghost use Rattle.std.specs.Prelude.{◌≡◌, All, List, length, map, IfOk, OnO
 ghost use Rattle.vx_pic.specs.Written.{Plan};
 ghost use Rattle.vx_frame.specs.Corners.{AreCorners};
 ghost use Rattle.vx_merge.specs.Joins as words;
-ghost use Rattle.vx_merge.specs.Joins.{WritesJoined};
-ghost use Rattle.vx_merge.specs.Merging.{ChecksRound, Stands, WritesOneRound};
-ghost use Rattle.vx_merge.specs.inner.Counting.{WritesWhere};
+ghost use Rattle.vx_merge.specs.Merging.{ChecksRound, Stands};
+ghost use Rattle.vx_merge.specs.inner.Counting.{WritesAs, WritesWhere, pictures_where};
 ghost use Rattle.vx_merge.specs.inner.Progress.{IsProgress, merging_of};
 
-use crate::joins::join_start;
+use crate::joins::join_refusal;
 use crate::output::write_units;
 use crate::progress::Progress;
 use crate::round::round_units;
@@ -57,6 +56,21 @@ fn joined<L: Lender>(alloc: Global, lenders: &[L]) -> Result<Vec<Picture<'_>>, A
     Ok(round)
 }
 
+/// The pictures that are lent, as they are written where they are joined or not.
+fn pictures<L: Lender>(
+    alloc: Global,
+    lenders: &[L],
+    joins: bool,
+) -> Result<Vec<Picture<'_>>, AllocError>
+    requires { All L.holds lenders.now }
+    ensures { IfOk result (λ round. round.items ≡ pictures_where joins (map L.lent lenders.now)) }
+{
+    if joins {
+        return joined(alloc, lenders);
+    }
+    lent(alloc, lenders)
+}
+
 /// Checks a round of pictures, and counts it as written.
 fn check_round(
     alloc: Global,
@@ -95,16 +109,17 @@ fn check_lent<L: Lender>(
         → ChecksRound (map L.lent lenders.now) done (merging_of corners.now level progress.new) result }
 {
     let round = lent(alloc, lenders)?;
-    check_round(alloc, corners, level, progress, round.as_slice())
+    check_round(alloc, corners, level, progress, &round)
 }
 
-/// Writes a round of pictures.
+/// Writes a round of pictures, joined behind those before it or not.
 fn write_round<K: Sink>(
     alloc: Global,
     corners: &[Corner],
     level: Option<u8>,
     progress: &mut Progress,
     round: &[Picture<'_>],
+    joins: bool,
     out: &mut K,
 ) -> Result<(), WriteError>
     requires corners { AreCorners corners.now }
@@ -112,35 +127,15 @@ fn write_round<K: Sink>(
     requires progress { IsProgress corners.now level progress.old }
     ensures progress { OnOk result (IsProgress corners.now level progress.new) }
     ensures answer { (done : List Plan) → Stands (merging_of corners.now level progress.old) done
-        → WritesOneRound round.now done (merging_of corners.now level progress.new)
+        → WritesAs joins round.now done (merging_of corners.now level progress.new)
         (K.bytes_taken out.old) (K.bytes_taken out.new) (K.write_faults out.old) (K.write_faults out.new) result }
 {
+    if let Some(refusal) = join_refusal(joins, round) {
+        return Err(WriteError::Refused(refusal));
+    }
     let units = round_units(alloc, corners, level, progress, round)?;
     write_units(out, &units)?;
     Ok(())
-}
-
-/// Writes a round of pictures that is joined behind those before it.
-fn write_joined<K: Sink>(
-    alloc: Global,
-    corners: &[Corner],
-    level: Option<u8>,
-    progress: &mut Progress,
-    round: &[Picture<'_>],
-    out: &mut K,
-) -> Result<(), WriteError>
-    requires corners { AreCorners corners.now }
-    requires same { length corners.now ≡ length round.now }
-    requires progress { IsProgress corners.now level progress.old }
-    ensures progress { OnOk result (IsProgress corners.now level progress.new) }
-    ensures answer { (done : List Plan) → Stands (merging_of corners.now level progress.old) done
-        → WritesJoined round.now done (merging_of corners.now level progress.new)
-        (K.bytes_taken out.old) (K.bytes_taken out.new) (K.write_faults out.old) (K.write_faults out.new) result }
-{
-    if let Some(refusal) = join_start(round) {
-        return Err(WriteError::Refused(refusal));
-    }
-    write_round(alloc, corners, level, progress, round, out)
 }
 
 /// Writes a round of lenders, joined behind those before it or not.
@@ -162,12 +157,8 @@ fn write_lent<L: Lender, K: Sink>(
         → WritesWhere joins (map L.lent lenders.now) done (merging_of corners.now level progress.new)
         (K.bytes_taken out.old) (K.bytes_taken out.new) (K.write_faults out.old) (K.write_faults out.new) result }
 {
-    if joins {
-        let round = joined(alloc, lenders)?;
-        return write_joined(alloc, corners, level, progress, round.as_slice(), out);
-    }
-    let round = lent(alloc, lenders)?;
-    write_round(alloc, corners, level, progress, round.as_slice(), out)
+    let round = pictures(alloc, lenders, joins)?;
+    write_round(alloc, corners, level, progress, &round, joins, out)
 }
 
 impl Merger {

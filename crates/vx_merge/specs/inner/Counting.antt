@@ -19,6 +19,16 @@ abbrev pub MakesRound : List Parts → List Plan → Merging → Result RoundUni
 MakesRound round done new (Ok m) = (p : Plan) × Passes new.corners new.level round done p × Stands new (p ∷ done) × (units_of p ≡ units_made m)
 MakesRound round done new (Err e) = ChecksRound round done new (Err e)
 
+-- the pictures of a round as they are written, where it is joined or not
+abbrev pub pictures_where : (joins : Bool) → List Parts → List Parts
+pictures_where true round = map after_end_of_sequence round
+pictures_where false round = round
+
+-- as of these pictures where they are joined, or of any
+abbrev pub WritesAs : (joins : Bool) → List Parts → List Plan → Merging → Option (List ℕ) → Option (List ℕ) → ℕ → ℕ → Result (Unit {0}) WriteError → Type 0
+WritesAs true = WritesJoined
+WritesAs false = WritesOneRound
+
 -- as of a round that is joined, its pictures being marked so, or of any
 abbrev pub WritesWhere : (joins : Bool) → List Parts → List Plan → Merging → Option (List ℕ) → Option (List ℕ) → ℕ → ℕ → Result (Unit {0}) WriteError → Type 0
 WritesWhere true round = WritesJoined (map after_end_of_sequence round)

@@ -1,6 +1,7 @@
-use Rattle.std.proofs.Common.{◌≡◌, ◌<◌, length, Some, slice_get, refl, ap, sym, subst, ◌∙◌}
-use Rattle.std.specs.Prelude.{IfSome}
+use Rattle.std.proofs.Common.{◌≡◌, ◌<◌, ℕ, Vec, Global, length, Some, slice_get, refl, ap, sym, subst, ◌∙◌}
+use Rattle.std.specs.Prelude.{IfOk, IfSome}
 use Rattle.std.proofs.lemmas.List.{length-map}
+use Rattle.std.proofs.lemmas.Result.{IfOk-weaker}
 use Rattle.vx_bits.specs.Codes.{EndsInNoZero}
 use Rattle.vx_write.specs.Units.{IsUnitOf}
 use Rattle.vx_pic.specs.Parts.{Parts, part_of}
@@ -83,10 +84,14 @@ returns c = λ b begun.
     (picture_read round 0 c.index-round-0.result some c.index-round-0.is) in
     let at : slice_get (picture_at round c.args.k).slices c.args.i ≡ Some (part_of c.slice-slice.result) = ap
     (λ (p : Parts). slice_get p.slices c.args.i) (sym q_is) ∙ c.slice-slice.ensures.slice in
-    let made = subst (λ xs. IsUnitOf c.kind-kind.result.nal_type c.kind-kind.result.temporal_id xs c.in_ok-unit.unit.items)
-    c.deref.ensures.value c.in_ok-unit.ensures in
-    subst (λ o. IfSome o (λ s. IsFront round (ids_in n) (picture_at round 0).kind.nal_type b c.args.k s c.in_ok-unit.unit.items)) (sym at)
-    (is_front round n m c.requires.sender c.slice_has_filter.ensures c.args.k c.requires.k q q_is h c.header-header.ensures.read
+    let unit_is = λ (u : Vec ℕ Global). IsUnitOf c.kind-kind.result.nal_type c.kind-kind.result.temporal_id c.deref.result.now u.items in
+    let front_is = λ (u : Vec ℕ Global). IsFront round (ids_in n) (picture_at round 0).kind.nal_type b c.args.k (part_of c.slice-slice.result) u.items in
+    subst (λ o. IfOk c.plain_unit.result (λ u. IfSome o (λ s. IsFront round (ids_in n) (picture_at round 0).kind.nal_type b c.args.k s u.items))) (sym at)
+    (IfOk-weaker c.plain_unit.result unit_is front_is
+    (λ u is.
+    let made = subst (λ xs. IsUnitOf c.kind-kind.result.nal_type c.kind-kind.result.temporal_id xs u.items) c.deref.ensures.value is in
+    is_front round n m c.requires.sender c.slice_has_filter.ensures c.args.k c.requires.k q q_is h c.header-header.ensures.read
     c.slice-slice.ensures.subpic c.slice-slice.ensures.read shape has
-    (part_of c.slice-slice.result) refl c.in_ok-bytes.bytes.items c.in_ok-bytes.ensures c.in_ok-unit.unit.items c.kind-kind.result
+    (part_of c.slice-slice.result) refl c.in_ok-bytes.bytes.items c.in_ok-bytes.ensures u.items c.kind-kind.result
     kind_is made b begun)
+    c.plain_unit.ensures)
