@@ -104,9 +104,9 @@ class Run:
 
 
 def main():
-    program = sys.argv[1]
+    program, *pages = sys.argv[1:]
     sums = [0, 0, 0]
-    for page in PAGES:
+    for page in pages or PAGES:
         with tempfile.TemporaryDirectory() as folder:
             run = Run(page, Path(folder), program)
             run.whole()
