@@ -1,14 +1,16 @@
 #!/usr/bin/env python3
-r"""Makes crates/vx_explain/src/text.rt, what there is to tell of rules and fields, from docs/REFUSALS.md and docs/FIELDS.md.
+r"""Makes crates/vx_explain/src/text.rt, what `--explain` prints of rules and fields, from docs/REFUSALS.md and docs/FIELDS.md.
 
     scripts/explanations.py [--check]
 
 The two pages are the source: change a rule there, and a field in crates/vx_fields (scripts/list-fields.sh makes docs/FIELDS.md), and run
-this. With --check nothing is written; the status is 1 where text.rt isn't what would be.
+this. With --check nothing is written; the status is 1 if text.rt isn't what the pages make.
 
-The text is a run of parts with a bar between two. A part begins with its word and a blank, and is what the program writes, in lines of at
-most 78 characters. Of a rule it is what its page says, of `Y` with all reasons; of a field its name and sentence, its structure and
-clause, and that it isn't compared where a star stands.
+The text is a run of parts with a bar between two. A part begins with its word and a blank, and is what the program prints, in lines of at
+most 78 characters. A rule has its cause and its fix, on lines of their own that begin under each other; `Y` has those of all reasons. A
+field has its name and sentence, its structure and clause, and, if it has a star, that it isn't compared.
+
+On the page on refusals a rule is an item of a list: its word in bold, its cause, and after a line break its fix, with lists below these.
 """
 import argparse
 import pathlib
@@ -22,48 +24,58 @@ WIDTH = 78
 # Fields with a star that `merge` compares, as docs/FIELDS.md says above its lists.
 MERGED = ("general_profile_idc", "general_tier_flag", "ptl_frame_only_constraint_flag", "ptl_multilayer_enabled_flag")
 HEAD = """\
-//! What there is to tell of rules and fields, as `scripts/explanations.py` makes it of docs/REFUSALS.md and docs/FIELDS.md.
+//! What `--explain` prints of rules and fields, as `scripts/explanations.py` makes it of docs/REFUSALS.md and docs/FIELDS.md.
 
-/// The parts, with a bar between two. Each begins with its word and a blank, and is what is told of this word.
+/// The parts, with a bar between two. Each begins with its word and a blank, and is what is printed for this word.
 """
 
 
 def plain(text):
-    """Text without Markdown's links and its marks for bold and slanted words; in place of the page on fields stands what names one."""
-    text = re.sub(r"\[([^]]*)\]\([^)]*\)", r"\1", text)
-    text = re.sub(r"docs/FIELDS\.md(?: names them all)?", "`--explain` names it", text)
+    """Text without Markdown's links, its line breaks, and its marks for bold and slanted words."""
+    text = re.sub(r"\[([^]]*)\]\([^)]*\)", r"\1", text.removesuffix("\\"))
     return re.sub(r"(\*\*?)(\S(?:.*?\S)?)\1", r"\2", text)
 
 
-def broken(line):
-    """A line of a page as lines that keep its indent; those of an item of a list stand behind its dash."""
-    indent = line[: len(line) - len(line.lstrip())]
-    behind = indent + ("  " if line.startswith("- ", len(indent)) else "")
-    return textwrap.fill(plain(line.strip()), WIDTH, initial_indent=indent, subsequent_indent=behind, break_on_hyphens=False) + "\n"
+def filled(text, first="", later=""):
+    """A line of a page as lines of the program, with what each begins with."""
+    return textwrap.fill(plain(text), WIDTH, initial_indent=first, subsequent_indent=later, break_on_hyphens=False) + "\n"
 
 
-def told(*lines):
-    """What the program writes."""
-    return "".join(map(broken, lines))
+def entry(item):
+    """A rule, an item of the page on refusals without its dash: its word and its cause, and all else under the cause."""
+    word = re.match(r"\*\*(\w+)\*\* ", item).group(1)
+    text, *others = item.rstrip().split("\n")
+    return filled(text, "", " " * (len(word) + 1)) + under(others, " " * (len(word) + 1))
+
+
+def reason(item):
+    """An item that gives no rule, but a reason: a line of its words, and all else under these."""
+    words, cause, text = item.rstrip().partition("*Cause:*")
+    return filled(words, "  ") + under(f"  {cause}{text}".split("\n"), "    ")
+
+
+def under(lines, indent):
+    """The lines of an item, each a text or an item of a list in it."""
+    texts = [line.removeprefix("  ") for line in lines]
+    return "".join(filled(text, indent, indent + "  " * text.startswith("- ")) for text in texts)
 
 
 def rules(page):
-    """The parts of the page on refusals: a rule each, or a letter where its items have no numbers."""
+    """The parts of the page on refusals: a rule each, or a letter if its items have no numbers."""
     for section in page.split("\n## ")[1:]:
         heading, *lines = section.rstrip().split("\n")
         letter, topic, example = re.fullmatch(r"(\w): (.*?) \((`.*`)\)", heading).groups()
-        items = re.split(r"^- ", "\n".join(lines), flags=re.M)
-        if items[1].startswith(f"**{letter}1** "):
-            for item in items[1:]:
-                yield told(*(line.removeprefix("  ") for line in item.rstrip().split("\n")))
+        about, *items = re.split(r"^- ", "\n".join(lines), flags=re.M)
+        if items[0].startswith(f"**{letter}1** "):
+            yield from map(entry, items)
         else:
-            about = filter(None, items[0].split("\n"))
-            reasons = (line for item in items[1:] for line in f"- {item.rstrip()}".split("\n"))
-            yield told(f"{letter} {topic[0].upper()}{topic[1:]}: {example}.", *about, *reasons)
+            text = filled(f"{letter} {topic[0].upper()}{topic[1:]}: {example}.", "", "  ")
+            text += "".join(filled(line, "  ", "  ") for line in about.split("\n") if line)
+            yield text + "".join(map(reason, items))
 
 
 def compared(name, star):
-    """What is added of a field that isn't compared."""
+    """What is added for a field that isn't compared."""
     if star != "*":
         return ""
     return " Only `merge` compares it, among its sources (M2)." if name in MERGED else " It isn't compared between streams."
@@ -76,7 +88,7 @@ def fields(page):
             structure = line.removeprefix("Fields of ")
         elif row := re.fullmatch(r"\| (\d+) \| `(\w+)` \| (\*|gap)? ?\| (.*) \|", line):
             number, name, star, sentence = row.groups()
-            yield told(f"{number} {name}: {sentence}", f"A field of {structure}{compared(name, star)}")
+            yield filled(f"{number} {name}: {sentence}") + filled(f"A field of {structure}{compared(name, star)}")
 
 
 def pages():

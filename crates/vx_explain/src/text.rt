@@ -1,269 +1,265 @@
-//! What there is to tell of rules and fields, as `scripts/explanations.py` makes it of docs/REFUSALS.md and docs/FIELDS.md.
+//! What `--explain` prints of rules and fields, as `scripts/explanations.py` makes it of docs/REFUSALS.md and docs/FIELDS.md.
 
-/// The parts, with a bar between two. Each begins with its word and a blank, and is what is told of this word.
-pub(crate) static TEXT: [u8; 69368] =
-    *b"F1 Outside a unit stands a byte that is no zero and no start code.
-The file is no Annex B byte stream, or was cut in its midst: take the stream
-out of its container (MP4, TS), or begin at a start code.
-|F2 A byte stands in a unit where emulation prevention rules it out: 00, 01 or
-02 after 00 00, or more than 03 after 00 00 03.
-The unit was damaged, or written without emulation prevention: write it again
-with 03 after each 00 00 that needs it.
-|F3 A unit has no header of two bytes, or its header has forbidden_zero_bit 1
-or nuh_temporal_id_plus1 0.
-The file was cut after a start code, or is no H.266 stream (H.265 and H.264
-have other headers).
+/// The parts, with a bar between two. Each begins with its word and a blank, and is what is printed for this word.
+pub(crate) static TEXT: [u8; 69433] =
+    *b"F1 Cause: A byte outside a unit is neither zero nor part of a start code. The
+   file isn't an Annex B byte stream, or begins inside a unit.
+   Fix: Take the stream out of its container (MP4, TS), or cut it at a start
+   code.
+|F2 Cause: A byte stands where emulation prevention rules it out: 00, 01 or 02
+   after 00 00, or more than 03 after 00 00 03.
+   Fix: Write the unit again, with 03 after each 00 00 that needs it.
+|F3 Cause: A unit has no header of two bytes, or its header has
+   forbidden_zero_bit 1 or nuh_temporal_id_plus1 0.
+   Fix: Cut files before start codes. H.265 and H.264 have other headers.
 |Y The syntax of sets and headers: `Y source 0 unit 0 field 22 bit 40 Short`.
-`field` is the number of the syntax element (`--explain` names it), `bit` the
-place in the RBSP, after the two header bytes and without emulation prevention
-bytes, at which it begins.
-- Short The bits end within the field.
-  The unit was cut, or belongs to another version of the syntax.
-- LongCode An Exp-Golomb code begins with 32 zeros.
-  No number of H.266 is that large: the bits before it were read as something
-  that they aren't, so look at the fields before.
-- BadTrailing, BadAlignment The bits that end or align the structure aren't a
-  one and zeros, or zeros.
-  The structure has fields that this version doesn't know, or bytes were added
-  after it.
-- OutOfRange The field's number isn't one that it may have.
-  The encoder broke the standard, or uses an option that this program doesn't
-  read.
-|P1 A unit belongs to a layer above 0.
-Take the base layer out of the stream first.
-|P2 An SPS refers to a VPS.
-The stream may have several layers: encode it with sps_video_parameter_set_id
-0.
-|P3 An SPS has no profile, tier and level.
-Such sets belong to further layers: encode one layer.
-|P4 The chroma format is 4:2:2 or 4:4:4.
-Encode 4:0:0 or 4:2:0.
-|P5 Samples have more than 10 bits.
-Encode 8 to 10 bits.
-|P6 Palette mode is on.
-Turn it off in the encoder.
-|P7 The resolution may change within a coded layer video sequence.
-Turn sps_res_change_in_clvs_allowed_flag off; reference picture resampling may
-stay enabled.
-|P8 Virtual boundaries are on.
-Turn them off; regions of a 360-degree picture are subpictures here.
-|P9 An SPS has extension data.
-Encode without range extensions (version 1 of H.266).
-|P10 NAL unit types may be mixed within a picture.
-Encode all slices of a picture with one type.
-|P11 A PPS has an explicit scaling window.
-Encode without one.
-|P12 Slices are runs of tiles in raster order.
-Encode rectangular slices (pps_rect_slice_flag 1).
-|P13 A PPS turns reference wraparound on.
-Turn it off: a subpicture's own borders end its references.
-|P14 A PPS has extension data.
-As P9.
-|P15 An adaptation parameter set has an id past those of its type: 0 to 7, for
-LMCS 0 to 3.
-The encoder broke the standard.
-|S1 A set that is referred to hasn't come; the line ends with its kind and id,
-as `PPS 3`.
-The stream begins after its sets, or lost a unit: send the set before the
-picture that needs it.
-|S2 A slice comes where no picture has begun, or all slices of the picture
-came.
-A picture header was lost, or a slice was sent twice.
-|S3 An SPS, a PPS or a prefix APS comes between the slices of a picture.
-Send it before the picture; a suffix APS may stand there.
-|S4 A picture lacks a slice: the next picture, an end of sequence or the
-stream's end comes, or another slice than the next one.
-A slice was lost, or slices aren't in order of subpictures and addresses.
-|S5 A slice names a subpicture that the picture doesn't have.
-Its ids and those of the SPS or PPS don't belong together.
-|S6 The first picture, or the first after an end of sequence, is no IDR, CRA or
-GDR picture.
-Begin at a random access point.
-|S7 The SPS changes within a coded layer video sequence.
-Change it at an IDR picture, or at a CRA or GDR picture after an end of
-sequence.
-|S8 A slice has another type than the first slice of its picture.
-As P10.
-|S9 A slice has another TemporalId than its picture.
-A unit of another picture was taken in, or headers were rewritten in part.
-|S10 The width or the height of a PPS isn't its SPS's.
-The PPS belongs to another SPS of that id, or to a stream that changes its
-resolution.
-|S11 No byte follows a slice header.
-The slice's data was lost.
-|S12 Tiles, slices and subpictures don't make up a layout; the line ends with
-the number of what is wrong:
-1 the CTU sizes of both sets differ; 2 the ids of subpictures stand in the
-wrong set, are too few, too short or not all different; 3 the subpictures
-don't cover the picture once; 4 a tile and a subpicture cut one another; 5 the
-slices don't cover the picture once; 6 a slice lies in no one subpicture; 7 a
-slice comes before one to its left or above it.
-|S13 A picture order count doesn't fit in 32 bits.
-The encoder broke the standard: begin a new sequence before that.
-|S14 SliceQpY is below -QpBdOffset or above 63.
-pps_init_qp_minus26 and the delta of header or slice don't belong together.
-|S15 The picture header stands in a slice of a picture that has several.
-Such a picture's header has to be a unit of its own.
-|L1 A unit has more than 2^23 bytes; of a merge, one that would be written.
-Use more slices; or a start code was lost, and several units run into one.
-|L2 The header and the slices of a picture have more than 2^25 bytes; of a
-merge, those that would be written for a round.
-Encode at a lower rate, or merge fewer sources.
-|L3 A source has more than 2^40 bytes; of a merge, all that would be written.
-Cut the stream at random access points.
-|L4 More than 64 sources are named, of a merge or to be compared with a
-finished stream; or more than 64 regions, to be played.
-Nothing is read. A merged stream has several subpictures and is no source of
-another merge (M1), so a frame has 64 regions at most.
-|L5 A picture has more than 1,000 slices; of a merge, all its sources together.
-Use fewer slices: the levels of H.266 go up to 1,000.
-|L6 A picture is wider or higher than 16,384 luma samples; of a merge, the
-frame that the regions reach to.
-Encode smaller pictures, or merge fewer of them.
-|L7 A reference picture list structure has more than 29 entries.
-The encoder broke the standard: num_ref_entries is at most MaxDpbSize + 13.
-|L8 An SPS has more than 64 reference picture list structures for one list.
-The encoder broke the standard; further structures can stand in headers.
-|L9 A picture has more than 1,000 subpictures.
-Use fewer subpictures: each has a slice at least, and the levels of H.266 go
-up to 1,000 of these.
-|L10 The SEI messages that are carried with one picture (mastering display
-colour volume, content light level, alternative transfer characteristics) have
-more than 65,536 bytes.
-Send each message once for a picture: all three are but a few bytes long.
-|L11 More than 256 files are named, to be played.
-Nothing is read, and L4 is tried before. Put several segments into one file:
-byte streams may stand one behind another in it, each behind an end of
-sequence.
-|E1 The source has no picture.
-Look at it by `show`: it is empty, or has nothing but sets.
-|E2 The picture has no subpicture of this index.
-`show` tells how many subpictures each SPS has; their indices begin at 0.
-|E3 The subpicture isn't treated as a picture: its slices may refer to samples
-outside it.
-Encode with sps_subpic_treated_as_pic_flag 1, or with independent subpictures.
-|E4 In-loop filters cross the borders of the subpicture, so that without its
-neighbours it decodes to other samples.
-Encode with sps_loop_filter_across_subpic_enabled_flag 0, or with independent
-subpictures.
-|E5 An IRAP or a GDR picture would be left out with its sublayer (`--tid`), and
-what follows it couldn't be decoded.
-Keep more sublayers: such pictures mostly have TemporalId 0.
-|M1 The source's pictures have several subpictures.
-Only whole pictures are merged: take a subpicture out by `extract` first.
-|M2 Its SPS differs from source 0's, in the field that is named: in what a
-decoder of slices needs, or in profile, tier or the two constraint flags after
-the level.
-Encode all sources with one configuration of tools, bit depth, chroma format
-and CTU size.
-|M3 The regions don't make up a frame: the region's corner isn't a multiple of
-the CTU size, or it overlaps a lower one; or, with source 0, the frame has a
-gap.
-Partial CTUs may stand at the frame's right and lower border alone, so a
-source whose size is no multiple of the CTU size goes there.
-|M4 A CTU of the region has its left or upper neighbour in a later region.
-Name the files in another order: from the left to the right and from above, as
-a decoder meets them.
-|M5 A tile border of another region would run through this region, which has
-none there; or its upper border can't be a tile border of the frame, and the
-file named before it isn't directly above it, with the same left and right
-borders.
-Encode the sources with the tiles that the whole frame needs, or one below the
-other with one tile each, named one after the other.
-|M6 Its NAL unit type, its TemporalId, or whether an end of sequence stands
-before it differs.
-Encode all sources with the same structure of pictures. Where a round is
-joined, the type alone counts: all regions begin with the same one there, as
-IDR_N_LP.
-|M7 Its PPS differs in what a decoder of slices needs, in the field that is
-named.
-As M2.
-|M8 Its picture header differs in what a decoder of slices needs, in the field
-that is named.
-An encoder may choose such a field by what it sees in the picture,
-independently of the other sources: `ph_joint_cbcr_sign_flag` (643), the
-deblocking and SAO flags, the collocated picture and the limits of block
-partitioning are among them. Turn such choices off, or fix them: for joint
-coding of chroma residuals turn JointCbCr off, or take its sign from the slice
-type and not from the residuals; deblocking, SAO and partitioning limits come
-from a fixed configuration.
-Where a round is joined, `field 606` says that the low bits of the picture
-order count differ. A picture has one count, and nothing numbers pictures
-anew: let all encoders begin each segment with the same ph_pic_order_cnt_lsb,
-mostly 0.
-|M9 It has luma mapping with chroma scaling or scaling lists, and other ones
-than the lowest source that has them.
-One picture has one of each: turn LMCS off or fix its model, and use one
-scaling matrix.
-|M10 The reference picture lists of its first slice differ.
-As M6.
-|M11 sh_no_output_of_prior_pics_flag differs.
-The flag says of an IRAP or GDR picture whether earlier pictures are still put
-out, and all its slices have one value: encode all sources with the same.
-|M12 With this source the picture needs more than 8 filters (adaptive loop
-filter sets); one that several slices use counts once.
-Let each source use fewer, or turn off the adaptive loop filter in some.
-|M13 Whether in-loop filters cross the borders of tiles, or of slices, differs
-among the sources that have several.
-One PPS holds for all: turn filters across tiles, and across slices, on in all
-sources or off in all.
-|M14 The source ended while another went on.
-Cut all sources to the same number of pictures; of `play`, the regions, whose
-files may be cut elsewhere.
-|M15 The round is joined, and the region's picture can't begin there: it starts
-no coded layer video sequence, or has a TemporalId above 0, or is no reference
-picture (ph_non_ref_pic_flag).
-Begin each file with an IDR picture of TemporalId 0, and let the other regions
-have one there, too: their encoders need the same times of such pictures. A
-CRA picture inside a file starts no sequence.
-|M16 One of its slices predicts motion from another picture
-(sh_collocated_ref_idx) than the first slice of all that names one.
-A picture has one collocated picture. Encode the choice of the collocated
-picture in the picture header or fix it, for instance to the first entry of
-list 0; and see that the lists of all sources agree.
-|C1 OUT's picture (`source 0`) has not as many subpictures as there are
-sources, or this source's picture has several.
-Name one source for each subpicture (`show OUT` tells how many there are), and
-take a subpicture out of a source by `extract` first.
-|C2 The upper left corner of the subpicture isn't at this source's place.
-Sources stand in the order of the subpictures' indices, and X, Y are luma
-samples. If they are right, the tool that made OUT has put another grid into
-its SPS.
-|C3 The subpicture and the source's picture have different numbers of slices.
-A slice was lost or cut anew, or the file belongs to another place.
-|C4 A slice has another decoding input than in the source. `slice` is its
-address within the subpicture, `part` what differs first, `field` of parts 2
-to 5 the number of the first field that differs (`--explain` names it), or
-else 0:
-- part 1: the kind of picture: its NAL unit type, its TemporalId, whether it
-  starts a coded layer video sequence, whether an end of sequence stands
-  before it, or its picture order count.
-  The files are out of step: a picture, or an end of sequence, was lost or
-  added in one of them.
-- part 2, the SPS; part 3, the PPS; part 4, the picture header; part 5, the
-  slice header: a field that decoding slices depends on.
-  OUT has to have the source's value there. A field that differs among the
-  sources themselves can't be written for all (M2, M7, M8): encode them alike.
-- part 6: the filters of the adaptive loop filter; part 7: luma mapping with
-  chroma scaling, or ph_chroma_residual_scale_flag; part 8: scaling lists.
-  An adaptation parameter set is missing, comes too late, or has an id that
-  another source's has.
-- part 9: the reference picture lists.
-  Entries were lost or added; they are picture order counts, so all sources
-  need the same.
-- part 10: SliceQpY.
-  The sources have other values of pps_init_qp_minus26, and sh_qp_delta or
-  ph_qp_delta of the slice has to make up for it.
-- part 11: the size of the subpicture, its tiles and slices counted from its
-  corner, the slice's place among them, or whether in-loop filters cross their
-  borders.
-  The file belongs to another place, or a tile border of another source runs
-  through its region.
-- part 12: the bytes behind the slice header.
-  Slice data was encoded anew, damaged or cut.
-|C5 This file ended while another went on: the lowest one that did.
-A picture was lost at the end of one of the files; `show` counts the pictures
-of each.
+  `field` is the syntax element that can't be read; `--explain` names it.
+  `bit` is where it begins in the RBSP, after the two header bytes and without
+  emulation prevention bytes.
+  Short
+    Cause: The bits end within the field.
+    Fix: The unit was cut, or isn't of version 1 of H.266: send the whole
+    unit, without extensions.
+  LongCode
+    Cause: An Exp-Golomb code begins with 32 zeros, and no number of H.266 is
+    that large.
+    Fix: Look for a wrong value in the fields before it, with `show --fields`.
+  BadTrailing, BadAlignment
+    Cause: The bits that end or align the structure aren't a one and zeros, or
+    zeros.
+    Fix: It has fields of a later version, or bytes were added: leave these
+    out.
+  OutOfRange
+    Cause: The field has a value that it may not have.
+    Fix: Change the encoder's option for this field.
+|P1 Cause: A unit belongs to a layer above 0.
+   Fix: Take the base layer out of the stream first.
+|P2 Cause: An SPS refers to a VPS, so the stream may have several layers.
+   Fix: Encode with sps_video_parameter_set_id 0.
+|P3 Cause: An SPS has no profile, tier and level: it belongs to a further
+   layer.
+   Fix: Encode one layer.
+|P4 Cause: The chroma format is 4:2:2 or 4:4:4.
+   Fix: Encode 4:0:0 or 4:2:0.
+|P5 Cause: Samples have more than 10 bits.
+   Fix: Encode 8 to 10 bits.
+|P6 Cause: Palette mode is on.
+   Fix: Turn it off.
+|P7 Cause: The resolution may change within a coded layer video sequence.
+   Fix: Set sps_res_change_in_clvs_allowed_flag to 0. Reference picture
+   resampling may stay enabled.
+|P8 Cause: Virtual boundaries are on.
+   Fix: Turn them off. Regions of a 360-degree picture are subpictures here.
+|P9 Cause: An SPS has extension data.
+   Fix: Encode without range extensions.
+|P10 Cause: NAL unit types may be mixed within a picture.
+    Fix: Encode all slices of a picture with one type.
+|P11 Cause: A PPS has an explicit scaling window.
+    Fix: Encode without one.
+|P12 Cause: Slices are runs of tiles in raster order.
+    Fix: Encode rectangular slices (pps_rect_slice_flag 1).
+|P13 Cause: A PPS turns reference wraparound on.
+    Fix: Turn it off: a subpicture's own borders end its references.
+|P14 Cause: A PPS has extension data.
+    Fix: Encode without range extensions.
+|P15 Cause: An adaptation parameter set has an id above those of its type: 0 to
+    3 for LMCS, 0 to 7 for the others.
+    Fix: Use ids in this range.
+|S1 Cause: A set that is referred to hasn't come. The line ends with its kind
+   and id, such as `PPS 3`.
+   Fix: Send the set before the picture that needs it. The stream begins after
+   its sets, or lost a unit.
+|S2 Cause: A slice comes where no picture has begun, or after all slices of its
+   picture.
+   Fix: Send each picture header before its slices, and each slice once.
+|S3 Cause: An SPS, a PPS or a prefix APS comes between the slices of a picture.
+   Fix: Send it before the picture. A suffix APS may stand there.
+|S4 Cause: A picture lacks a slice: the next picture, an end of sequence or the
+   end of the stream comes, or another slice than the next one.
+   Fix: Send all slices, in the order of subpictures and addresses.
+|S5 Cause: A slice names a subpicture that the picture doesn't have.
+   Fix: Send the SPS and PPS that the slice was encoded with.
+|S6 Cause: The first picture, or the first after an end of sequence, isn't an
+   IDR, CRA or GDR picture.
+   Fix: Begin at a random access point.
+|S7 Cause: The SPS changes within a coded layer video sequence.
+   Fix: Change it at an IDR picture, or at a CRA or GDR picture after an end
+   of sequence.
+|S8 Cause: A slice has another NAL unit type than the first slice of its
+   picture.
+   Fix: Encode all slices of a picture with one type.
+|S9 Cause: A slice has another TemporalId than its picture.
+   Fix: Give all units of a picture one TemporalId.
+|S10 Cause: The width or the height of a PPS isn't its SPS's.
+    Fix: Send the SPS and PPS that belong together. A new size needs a new
+    sequence.
+|S11 Cause: No byte follows a slice header.
+    Fix: Send the whole slice.
+|S12 Cause: Tiles, slices and subpictures don't make up a layout. The line ends
+    with the fault's number.
+    Fix: Send the SPS and PPS that belong together. The faults are:
+    - 1: the CTU sizes of both sets differ;
+    - 2: subpicture ids are in the wrong set, too few, too short or not all
+      different;
+    - 3: the subpictures don't cover the picture once;
+    - 4: a tile and a subpicture cut each other;
+    - 5: the slices don't cover the picture once;
+    - 6: a slice isn't within one subpicture;
+    - 7: a slice comes before one to its left or above it.
+|S13 Cause: A picture order count doesn't fit in 32 bits.
+    Fix: Begin a new sequence before that.
+|S14 Cause: SliceQpY is below -QpBdOffset or above 63.
+    Fix: Send the PPS that the slice was encoded with (pps_init_qp_minus26).
+|S15 Cause: The picture header is inside a slice of a picture that has several.
+    Fix: Send the picture header as a unit of its own.
+|L1 Cause: A unit has more than 2^23 bytes, or a merge would write such a unit.
+   Fix: Use more slices. If a start code was lost, restore it.
+|L2 Cause: The header and the slices of a picture, of a source or merged, have
+   more than 2^25 bytes.
+   Fix: Encode at a lower rate, or merge fewer sources.
+|L3 Cause: A source, or what a merge would write, has more than 2^40 bytes.
+   Fix: Cut the stream at random access points.
+|L4 Cause: More than 64 sources are named to be merged or compared, or more
+   than 64 regions to be played. Nothing is read.
+   Fix: Name at most 64.
+|L5 Cause: A picture, or all sources of a merge together, have more than 1,000
+   slices.
+   Fix: Use fewer: the levels of H.266 go up to 1,000.
+|L6 Cause: A picture, or the frame of a merge, is wider or higher than 16,384
+   luma samples.
+   Fix: Encode smaller pictures, or merge fewer.
+|L7 Cause: A reference picture list structure has more than 29 entries.
+   Fix: Use fewer: H.266 allows at most MaxDpbSize + 13.
+|L8 Cause: An SPS has more than 64 reference picture list structures for one
+   list.
+   Fix: Send further structures in headers.
+|L9 Cause: A picture has more than 1,000 subpictures.
+   Fix: Use fewer: levels go up to 1,000 slices.
+|L10 Cause: The SEI messages carried with a picture (mastering display colour
+    volume, content light level, alternative transfer characteristics) have
+    more than 65,536 bytes.
+    Fix: Send each message once for a picture.
+|L11 Cause: More than 256 files are named to be played. Nothing is read, and L4
+    is checked first.
+    Fix: Put several segments into one file, each after an end of sequence.
+|E1 Cause: The source has no picture.
+   Fix: Use a stream with pictures: `show` lists what this one has.
+|E2 Cause: The picture has no subpicture of this index.
+   Fix: `show` prints how many each SPS has. Indices begin at 0.
+|E3 Cause: The subpicture isn't treated as a picture: its slices may refer to
+   samples outside it.
+   Fix: Encode with sps_subpic_treated_as_pic_flag 1, or with independent
+   subpictures.
+|E4 Cause: In-loop filters cross the subpicture's borders, so without its
+   neighbours it decodes to other samples.
+   Fix: Encode with sps_loop_filter_across_subpic_enabled_flag 0, or with
+   independent subpictures.
+|E5 Cause: `--tid` would leave out an IRAP or GDR picture, and what follows it
+   couldn't be decoded.
+   Fix: Keep more sublayers: such pictures mostly have TemporalId 0.
+|M1 Cause: The source's pictures have several subpictures, and only whole
+   pictures are merged.
+   Fix: Take a subpicture out with `extract` first.
+|M2 Cause: Source K's SPS differs from source 0's in the field that is named:
+   one that decoding slices depends on, the profile, the tier, or one of the
+   two constraint flags after the level.
+   Fix: Encode all sources with one configuration of tools, bit depth, chroma
+   format and CTU size.
+|M3 Cause: The regions don't make up a frame. This region's corner isn't a
+   multiple of the CTU size, or the region overlaps an earlier one. With
+   source 0, there may be a gap instead.
+   Fix: Put corners on multiples of the CTU size, without gaps and overlaps:
+   `show` prints CTU size, width and height. A source whose size isn't such a
+   multiple goes to the frame's right or lower border.
+|M4 Cause: A CTU of the region has its left or upper neighbour in a later
+   region.
+   Fix: Name the files from left to right and from top to bottom.
+|M5 Cause: Tiles don't line up. Either another region's tile border would cut
+   through this region where it has none. Or this region's upper border can't
+   be a tile border of the frame, and the file named just before isn't the
+   region directly above it with the same left and right borders.
+   Fix: Encode the sources with the tiles that the frame needs. Or give them
+   one tile each, one below the other, and name them in turn.
+|M6 Cause: The NAL unit type of source K's picture, its TemporalId, or whether
+   an end of sequence precedes it differs from source 0's.
+   Fix: Encode all sources with one structure of pictures. In a joined round
+   only the type counts, such as IDR_N_LP in all regions.
+|M7 Cause: Source K's PPS differs from source 0's in the field that is named,
+   on which decoding slices depends.
+   Fix: Encode all sources with one configuration.
+|M8 Cause: Source K's picture header differs in the field that is named, on
+   which decoding slices depends. Encoders choose some by the picture's
+   content: ph_joint_cbcr_sign_flag (643), deblocking and SAO flags, the
+   collocated picture, limits of block partitioning. In a joined round, field
+   606 says that the low bits of the picture order count differ.
+   Fix: Turn such choices off, or fix them. For field 643, turn JointCbCr off,
+   or take the sign from the slice type, not the residuals. For field 606, let
+   all encoders begin each segment with the same ph_pic_order_cnt_lsb, mostly
+   0: nothing numbers pictures anew.
+|M9 Cause: Source K's LMCS model or scaling lists differ from those of the
+   first source that has any.
+   Fix: One picture has one of each: turn LMCS off or fix its model, and use
+   one scaling matrix.
+|M10 Cause: The reference picture lists of source K's first slice differ from
+    source 0's.
+    Fix: Encode all sources with one structure of pictures.
+|M11 Cause: sh_no_output_of_prior_pics_flag differs from that of the round's
+    first slice.
+    Fix: Encode all sources with the same value.
+|M12 Cause: With this source the picture needs more than 8 adaptive loop filter
+    sets, where one that several slices use counts once.
+    Fix: Let each source use fewer, or turn the filter off in some.
+|M13 Cause: Whether in-loop filters cross the borders of tiles, or of slices,
+    differs among the sources that have several.
+    Fix: One PPS holds for all: turn filters across tiles, and across slices,
+    on in all sources or off in all.
+|M14 Cause: The source ended while another went on.
+    Fix: Cut all sources, or for `play` all regions, to the same number of
+    pictures.
+|M15 Cause: The round is joined, and the region's picture can't begin there: it
+    starts no coded layer video sequence, has a TemporalId above 0, or isn't a
+    reference picture (ph_non_ref_pic_flag).
+    Fix: Where a file begins, give all regions an IDR picture with TemporalId
+    0. A CRA picture inside a file starts no sequence.
+|M16 Cause: One of source K's slices predicts motion from another picture
+    (sh_collocated_ref_idx) than the round's first slice that names one.
+    Fix: Encode the choice in the picture header, or fix it, for instance to
+    the first entry of list 0. Let the lists of all sources agree.
+|C1 Cause: OUT's picture (`source 0`) doesn't have as many subpictures as there
+   are sources, or this source's picture has several.
+   Fix: Name one source for each subpicture (`show OUT` prints how many), each
+   with one subpicture: `extract` takes one out.
+|C2 Cause: The upper left corner of the subpicture isn't at this source's
+   place.
+   Fix: Name the sources in the order of the subpictures' indices, with X, Y
+   in luma samples. If they are right, OUT's SPS has another grid.
+|C3 Cause: The subpicture and the source's picture have different numbers of
+   slices.
+   Fix: Name the file that belongs here. If a slice was lost or cut anew, make
+   OUT again.
+|C4 Cause: A slice has another decoding input than in the source. `slice` is
+   its address in the subpicture, `part` what differs first, and `field`, for
+   parts 2 to 5, the first field that differs.
+   Fix: It depends on the part:
+   - part 1, NAL unit type, TemporalId, start of a coded layer video sequence,
+     end of sequence before it, or picture order count: a picture or an end of
+     sequence was lost or added.
+   - parts 2 to 5, SPS, PPS, picture header, slice header: OUT needs the
+     source's value of the field. If the sources differ in it, encode them
+     alike (M2, M7, M8).
+   - parts 6 to 8, adaptive loop filter, LMCS or
+     ph_chroma_residual_scale_flag, scaling lists: an adaptation parameter set
+     is missing, comes too late, or has an id that another source's has.
+   - part 9, reference picture lists: entries were lost or added. All sources
+     need the same picture order counts.
+   - part 10, SliceQpY: if OUT has another pps_init_qp_minus26, the slice's QP
+     delta has to make up for it.
+   - part 11, size, tiles and slices of the subpicture, the slice's place
+     among them, or filters across their borders: the file belongs elsewhere,
+     or another source's tile border runs through its region.
+   - part 12, the bytes after the slice header: encoded anew, damaged or cut.
+|C5 Cause: This file, the lowest one, ended while another went on.
+   Fix: A picture is missing in a file: `show` lists those of each.
 |1 vps_video_parameter_set_id: The id of the video parameter set.
 A field of a video parameter set, clause 7.3.2.3. It isn't compared between
 streams.
