@@ -1,6 +1,11 @@
-"""Cases of `--explain`: what the pages on refusals and fields say of each rule and of every fifth field, and words that say nothing."""
-from explanations import fields, pages, rules
-from case_lines import Expected
+#!/usr/bin/env python3
+"""Cases of `--explain`: what the pages on refusals and fields say of each rule and of every fifth field, and words that say nothing.
+
+Run alone, it puts them in place of those in crates/vx_cases: scripts/make-cases.py makes all cases, and reads files that aren't in the
+repository.
+"""
+from explanations import ROOT, fields, pages, rules
+from case_lines import Cases, Expected
 from told_cases import GRAY_LINES, not_understood, say
 from worked_cases import A, failed
 
@@ -30,3 +35,22 @@ def add_explained(cases):
             "--explain", "M8|", "|M8")
     not_understood(cases, *(f"--explain {word}" for word in none), "--explain", "--explain M8 M9", "--explain M8 606", "M8", "M8 --explain",
                    "--explain=M8", "--Explain M8", "--help M8", "check --explain M8", "extract --explain M8")
+
+
+def main():
+    """Replaces the lines of these cases, which are those from their first heading on to the next heading that isn't theirs."""
+    cases = Cases()
+    add_explained(cases)
+    files = [ROOT / "crates/vx_cases" / name for name in ("stdin", "stdout")]
+    given, made = (file.read_text().split("\n") for file in files)
+    first = given.index(cases.given[1]) - 1
+    behind = next(i for i in range(first + 1, len(given)) if given[i].startswith("# ") and not given[i].startswith("# explain: ")) - 1
+    outputs = [sum(line.startswith(("case", "pushed ", "generated ")) for line in given[:i]) for i in (first, behind)]
+    given[first:behind] = cases.given
+    made[outputs[0]:outputs[1]] = cases.made
+    for file, lines in zip(files, (given, made)):
+        file.write_text("\n".join(lines))
+
+
+if __name__ == "__main__":
+    main()
