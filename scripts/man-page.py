@@ -1,11 +1,11 @@
 #!/usr/bin/env python3
-"""Makes the man page from what `goosequince --help` writes.
+"""Makes the man page from what `goosequince --help` prints.
 
     goosequince --help | scripts/man-page.py > goosequince.1
 
 The first line of that text is the program's name and what it is for. Lines that begin with two blanks are entries of a list, with a tag
-and, behind two blanks or in lines that are indented further, what it means; other lines are a paragraph. The first list are the words of
-each command. A paragraph that begins with `The status` is on the exit status, and one behind that on the rules.
+and, after two blanks or in lines that are indented further, what it means; other lines are a paragraph. The first list are the words of
+each command. A paragraph that begins with `The exit status` is on that, and the one after it on the rules.
 
 The date is today's, or that of SOURCE_DATE_EPOCH. `mandoc -T lint goosequince.1` has nothing to say of the page.
 """
@@ -80,7 +80,7 @@ def page(lines):
     yield from listed(told[0], True)
     for block in told[1:]:
         if isinstance(block, str):
-            yield ".Sh EXIT STATUS" if block.startswith("The status") else ".Sh DIAGNOSTICS"
+            yield ".Sh EXIT STATUS" if block.startswith("The exit status") else ".Sh DIAGNOSTICS"
             yield from prose(block)
         else:
             yield from listed(block, False)

@@ -15,75 +15,80 @@ use vx_io::{Sink, write_all};
 pub(crate) fn help() -> &'static [u8]
     ensures { result.now ≡ help_text }
 {
-    b"goosequince: subpictures of VVC byte streams (H.266, Annex B)
+    b"goosequince: merges and extracts subpictures of VVC streams (H.266, Annex B)
 
   show [--fields] FILE
-             lines of JSON for a byte stream: for each NAL unit its length in
-             bytes, the place of its first byte, its TemporalId and its type,
-             then what is read of the parameter set that it is, or of the
-             picture that it completes; and with --fields each field of a set
-             or a header by its name, in the order of the bits
+             lists the NAL units of a byte stream as lines of JSON: the length of
+             each unit, the place of its first byte, its TemporalId and its type;
+             then a line of the parameter set that it is, or of the picture that
+             it completes; with --fields also each field of a set or header, by
+             its name and in the order of the bits
   extract [--tid T] [--level N] INDEX FILE
-             the subpicture of an index, from 0, of each picture, as a byte stream
-             of its own; of the pictures with a TemporalId of at most T, and with N
-             as its general_level_idc
+             writes one subpicture, by its index from 0, of each picture as a
+             byte stream of its own; with --tid only pictures with a TemporalId
+             up to T, with --level N as general_level_idc
   check extract [--tid T] INDEX FILE
-             whether that can be done, and for how many pictures
+             says whether extract can do this, and for how many pictures
   merge [--level N] X,Y=FILE ..
-             the pictures of up to 64 files as those of one byte stream, each with its
-             upper left corner at luma sample X, Y; with N as its general_level_idc,
-             or else the files' highest, which is mostly too low for all of them
+             merges up to 64 byte streams into one, each as a subpicture with its
+             upper left corner at luma sample X, Y; with --level N as
+             general_level_idc, otherwise the highest of the files, which is
+             mostly too low for all of them
   play [--level N] X,Y=FILE ..
-             the same for up to 64 regions and 256 files: files with the same X,Y are one
-             region's, one behind another, with an end of sequence where one begins
+             the same for up to 64 regions and 256 files: files with the same X,Y
+             are played one after another in one region, with an end of sequence
+             wherever a file begins after others
   check merge X,Y=FILE ..
-             whether that can be done, by the rules below, and for how many pictures
+             says whether merge can do this, and for how many pictures
   verify merge OUT X,Y=FILE ..
-             whether OUT, made by any tool, is these files put together, with equal
-             decoding inputs in each picture, whatever its level, and for how many
-             pictures
+             says whether OUT, made by any tool and at any level, is the merge of
+             these files, with equal decoding inputs in each picture, and for how
+             many pictures
   trial SEED SOURCES PICTURES
-             makes 1 to 16 streams of 1 to 1000 pictures from a number, merges them side
-             by side, extracts each region, and says how many pictures, slices and bytes
-             there are, with a sum over all bytes
-  --help     this text
-  --version  the name and the version of the program
+             a self-test: makes 1 to 16 streams of 1 to 1000 pictures from a
+             number, merges them side by side, extracts each region again, and
+             prints the numbers of pictures, slices and bytes, and a sum over
+             all bytes
+  --help     prints this text
+  --version  prints the name and the version of the program
   --explain WORD
-             what a rule, as M8, means and what to do; or the field of a number, as 606
+             says what a rule such as M8 means and how to fix it, or what the
+             field of a number such as 606 is
 
-The status is 0 where all was done. Else a line on standard error says why:
+The exit status is 0 if all is done. Otherwise a line on standard error says
+why:
 
-  1  a rule is broken; its letter, number and place
-  2  the words are not understood
+  1  a rule is broken, or verify found a difference
+  2  the arguments are not understood
   3  a read or a write failed
-  4  there is no memory
+  4  out of memory
 
 The letters of the rules:
 
-  F  framing: F1 a byte outside a unit that is no zero and no start code,
-     F2 a byte that emulation prevention rules out, F3 a unit's header
-  Y  syntax: a field of a set or of a header, the bit where it begins, and
-     why it can't be read
-  P  profile: P1 a further layer, P2 to P14 what is out of reach in a set,
-     P15 the id of an adaptation parameter set
-  S  structure: S1 a set that hasn't come, S2 to S15 what a unit, or the end,
-     breaks behind the units before it
-  L  limits: L1 a unit of more than 2^23 bytes, L2 a picture of more than 2^25,
-     L3 a source of more than 2^40, each also of what is to be written; L4 more
-     than 64 sources or regions, L5 to L10 what no level, or this program, allows,
-     L11 more than 256 files
-  E  extraction: E1 a stream without pictures, E2 a picture without the
-     subpicture, E3 the subpicture isn't treated as a picture, E4 in-loop
-     filters cross the borders of the subpicture, E5 an IRAP or GDR picture has
-     a TemporalId above T
-  M  merging: M1 a source with several subpictures, M2, M7, M8 fields of its SPS,
-     PPS or picture header that differ, M3 to M5 regions or tiles that don't fit,
-     M6 another kind of picture, M9 to M13, M16 what its slices use that differs
-     or is too much, M14 an earlier end, M15 a picture that can't follow an end of
-     sequence, where a file begins behind others
-  C  comparing, file 0 being OUT: C1 another number of subpictures, C2 a
-     subpicture at another place, C3 another number of slices, C4 another decoding
-     input of a slice, by its part and field, C5 an earlier end
+  F  framing: F1 a byte outside a unit is neither zero nor start code, F2 a byte
+     stands where emulation prevention rules it out, F3 a unit's header can't be
+     read
+  Y  syntax: a field of a set or header can't be read; the line has the field,
+     the bit where it begins, and the reason
+  P  not supported: P1 a layer above 0, P2 to P14 what a set turns on, P15 the
+     id of an adaptation parameter set
+  S  structure: S1 a set hasn't come, S2 to S15 a unit, or the end, doesn't fit
+     the units before it
+  L  limits: L1 a unit has more than 2^23 bytes, L2 a picture more than 2^25, L3
+     a source more than 2^40, each also of what a merge would write; L4 more than
+     64 sources or regions, L5 to L10 more than the levels of H.266, or this
+     program, allow, L11 more than 256 files
+  E  extraction: E1 there is no picture, E2 a picture has no such subpicture, E3
+     the subpicture isn't treated as a picture, E4 in-loop filters cross its
+     borders, E5 an IRAP or GDR picture has a TemporalId above T
+  M  merging: M1 a source has several subpictures, M2, M7, M8 a field of its SPS,
+     PPS or picture header differs, M3 to M5 regions or tiles don't fit, M6 its
+     picture is of another kind, M9 to M13, M16 what its slices use differs or is
+     too much, M14 it ended before another, M15 its picture can't follow an end
+     of sequence, where a file begins after others
+  C  comparing, with OUT as file 0: C1 the number of subpictures differs, C2 a
+     subpicture stands elsewhere, C3 the number of slices differs, C4 a decoding
+     input differs, in its part and field, C5 a file ended before another
 "
 }
 
