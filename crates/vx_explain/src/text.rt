@@ -1,7 +1,7 @@
 //! What `--explain` prints of rules and fields, as `scripts/explanations.py` makes it of docs/REFUSALS.md and docs/FIELDS.md.
 
 /// The parts, with a bar between two. Each begins with its word and a blank, and is what is printed for this word.
-pub(crate) static TEXT: [u8; 69433] =
+pub(crate) static TEXT: [u8; 69964] =
     *b"F1 Cause: A byte outside a unit is neither zero nor part of a start code. The
    file isn't an Annex B byte stream, or begins inside a unit.
    Fix: Take the stream out of its container (MP4, TS), or cut it at a start
@@ -51,7 +51,7 @@ pub(crate) static TEXT: [u8; 69433] =
 |P8 Cause: Virtual boundaries are on.
    Fix: Turn them off. Regions of a 360-degree picture are subpictures here.
 |P9 Cause: An SPS has extension data.
-   Fix: Encode without range extensions.
+   Fix: Encode without range extensions (version 1 of H.266).
 |P10 Cause: NAL unit types may be mixed within a picture.
     Fix: Encode all slices of a picture with one type.
 |P11 Cause: A PPS has an explicit scaling window.
@@ -61,10 +61,10 @@ pub(crate) static TEXT: [u8; 69433] =
 |P13 Cause: A PPS turns reference wraparound on.
     Fix: Turn it off: a subpicture's own borders end its references.
 |P14 Cause: A PPS has extension data.
-    Fix: Encode without range extensions.
+    Fix: Encode without range extensions (version 1 of H.266).
 |P15 Cause: An adaptation parameter set has an id above those of its type: 0 to
     3 for LMCS, 0 to 7 for the others.
-    Fix: Use ids in this range.
+    Fix: The encoder broke the standard: use ids in this range.
 |S1 Cause: A set that is referred to hasn't come. The line ends with its kind
    and id, such as `PPS 3`.
    Fix: Send the set before the picture that needs it. The stream begins after
@@ -107,7 +107,7 @@ pub(crate) static TEXT: [u8; 69433] =
     - 6: a slice isn't within one subpicture;
     - 7: a slice comes before one to its left or above it.
 |S13 Cause: A picture order count doesn't fit in 32 bits.
-    Fix: Begin a new sequence before that.
+    Fix: The encoder broke the standard: begin a new sequence before that.
 |S14 Cause: SliceQpY is below -QpBdOffset or above 63.
     Fix: Send the PPS that the slice was encoded with (pps_init_qp_minus26).
 |S15 Cause: The picture header is inside a slice of a picture that has several.
@@ -121,7 +121,7 @@ pub(crate) static TEXT: [u8; 69433] =
    Fix: Cut the stream at random access points.
 |L4 Cause: More than 64 sources are named to be merged or compared, or more
    than 64 regions to be played. Nothing is read.
-   Fix: Name at most 64.
+   Fix: Name at most 64. A merged stream can't be merged again (M1).
 |L5 Cause: A picture, or all sources of a merge together, have more than 1,000
    slices.
    Fix: Use fewer: the levels of H.266 go up to 1,000.
@@ -129,21 +129,22 @@ pub(crate) static TEXT: [u8; 69433] =
    luma samples.
    Fix: Encode smaller pictures, or merge fewer.
 |L7 Cause: A reference picture list structure has more than 29 entries.
-   Fix: Use fewer: H.266 allows at most MaxDpbSize + 13.
+   Fix: The encoder broke the standard: H.266 allows at most MaxDpbSize + 13.
 |L8 Cause: An SPS has more than 64 reference picture list structures for one
    list.
-   Fix: Send further structures in headers.
+   Fix: The encoder broke the standard: send further structures in headers.
 |L9 Cause: A picture has more than 1,000 subpictures.
-   Fix: Use fewer: levels go up to 1,000 slices.
+   Fix: Use fewer: each has at least one slice, and the levels of H.266 go up
+   to 1,000 slices.
 |L10 Cause: The SEI messages carried with a picture (mastering display colour
     volume, content light level, alternative transfer characteristics) have
     more than 65,536 bytes.
-    Fix: Send each message once for a picture.
+    Fix: Send each message once for a picture: each is only a few bytes long.
 |L11 Cause: More than 256 files are named to be played. Nothing is read, and L4
     is checked first.
     Fix: Put several segments into one file, each after an end of sequence.
 |E1 Cause: The source has no picture.
-   Fix: Use a stream with pictures: `show` lists what this one has.
+   Fix: Use a stream with pictures: `show` lists what the source has.
 |E2 Cause: The picture has no subpicture of this index.
    Fix: `show` prints how many each SPS has. Indices begin at 0.
 |E3 Cause: The subpicture isn't treated as a picture: its slices may refer to
@@ -160,13 +161,13 @@ pub(crate) static TEXT: [u8; 69433] =
 |M1 Cause: The source's pictures have several subpictures, and only whole
    pictures are merged.
    Fix: Take a subpicture out with `extract` first.
-|M2 Cause: Source K's SPS differs from source 0's in the field that is named:
-   one that decoding slices depends on, the profile, the tier, or one of the
-   two constraint flags after the level.
+|M2 Cause: Source K's SPS differs from source 0's in the field that is named.
+   Decoding slices depends on it, or it is the profile, the tier, or one of
+   the two constraint flags after the level.
    Fix: Encode all sources with one configuration of tools, bit depth, chroma
    format and CTU size.
 |M3 Cause: The regions don't make up a frame. This region's corner isn't a
-   multiple of the CTU size, or the region overlaps an earlier one. With
+   multiple of the CTU size, or the region overlaps a region before it. With
    source 0, there may be a gap instead.
    Fix: Put corners on multiples of the CTU size, without gaps and overlaps:
    `show` prints CTU size, width and height. A source whose size isn't such a
@@ -193,7 +194,8 @@ pub(crate) static TEXT: [u8; 69433] =
    collocated picture, limits of block partitioning. In a joined round, field
    606 says that the low bits of the picture order count differ.
    Fix: Turn such choices off, or fix them. For field 643, turn JointCbCr off,
-   or take the sign from the slice type, not the residuals. For field 606, let
+   or take the sign from the slice type, not the residuals. Take deblocking,
+   SAO and partitioning limits from a fixed configuration. For field 606, let
    all encoders begin each segment with the same ph_pic_order_cnt_lsb, mostly
    0: nothing numbers pictures anew.
 |M9 Cause: Source K's LMCS model or scaling lists differ from those of the
@@ -203,8 +205,9 @@ pub(crate) static TEXT: [u8; 69433] =
 |M10 Cause: The reference picture lists of source K's first slice differ from
     source 0's.
     Fix: Encode all sources with one structure of pictures.
-|M11 Cause: sh_no_output_of_prior_pics_flag differs from that of the round's
-    first slice.
+|M11 Cause: sh_no_output_of_prior_pics_flag differs from the round's first
+    slice. At an IRAP or GDR picture it says whether earlier pictures are
+    still output.
     Fix: Encode all sources with the same value.
 |M12 Cause: With this source the picture needs more than 8 adaptive loop filter
     sets, where one that several slices use counts once.
@@ -214,8 +217,8 @@ pub(crate) static TEXT: [u8; 69433] =
     Fix: One PPS holds for all: turn filters across tiles, and across slices,
     on in all sources or off in all.
 |M14 Cause: The source ended while another went on.
-    Fix: Cut all sources, or for `play` all regions, to the same number of
-    pictures.
+    Fix: Cut all sources to the same number of pictures. For `play`, cut all
+    regions so; their files may be cut at different places.
 |M15 Cause: The round is joined, and the region's picture can't begin there: it
     starts no coded layer video sequence, has a TemporalId above 0, or isn't a
     reference picture (ph_non_ref_pic_flag).
@@ -223,8 +226,9 @@ pub(crate) static TEXT: [u8; 69433] =
     0. A CRA picture inside a file starts no sequence.
 |M16 Cause: One of source K's slices predicts motion from another picture
     (sh_collocated_ref_idx) than the round's first slice that names one.
-    Fix: Encode the choice in the picture header, or fix it, for instance to
-    the first entry of list 0. Let the lists of all sources agree.
+    Fix: A picture has one collocated picture. Encode the choice in the
+    picture header, or fix it, for instance to the first entry of list 0. Let
+    the lists of all sources agree.
 |C1 Cause: OUT's picture (`source 0`) doesn't have as many subpictures as there
    are sources, or this source's picture has several.
    Fix: Name one source for each subpicture (`show OUT` prints how many), each
