@@ -1,7 +1,7 @@
 //! What `--explain` prints of rules and fields, as `scripts/explanations.py` makes it of docs/REFUSALS.md and docs/FIELDS.md.
 
 /// The parts, with a bar between two. Each begins with its word and a blank, and is what is printed for this word.
-pub(crate) static TEXT: [u8; 69964] =
+pub(crate) static TEXT: [u8; 69984] =
     *b"F1 Cause: A byte outside a unit is neither zero nor part of a start code. The
    file isn't an Annex B byte stream, or begins inside a unit.
    Fix: Take the stream out of its container (MP4, TS), or cut it at a start
@@ -179,20 +179,20 @@ pub(crate) static TEXT: [u8; 69964] =
    through this region where it has none. Or this region's upper border can't
    be a tile border of the frame, and the file named just before isn't the
    region directly above it with the same left and right borders.
-   Fix: Encode the sources with the tiles that the frame needs. Or give them
-   one tile each, one below the other, and name them in turn.
+   Fix: Encode the sources with the tiles that the frame needs. Or give the
+   sources below one another one tile each, and name them one after the other.
 |M6 Cause: The NAL unit type of source K's picture, its TemporalId, or whether
    an end of sequence precedes it differs from source 0's.
    Fix: Encode all sources with one structure of pictures. In a joined round
-   only the type counts, such as IDR_N_LP in all regions.
+   only the type has to be equal, such as IDR_N_LP in all regions.
 |M7 Cause: Source K's PPS differs from source 0's in the field that is named,
    on which decoding slices depends.
    Fix: Encode all sources with one configuration.
 |M8 Cause: Source K's picture header differs in the field that is named, on
    which decoding slices depends. Encoders choose some by the picture's
    content: ph_joint_cbcr_sign_flag (643), deblocking and SAO flags, the
-   collocated picture, limits of block partitioning. In a joined round, field
-   606 says that the low bits of the picture order count differ.
+   collocated picture, limits of block partitioning. Field 606 says that the
+   low bits of the picture order count differ.
    Fix: Turn such choices off, or fix them. For field 643, turn JointCbCr off,
    or take the sign from the slice type, not the residuals. Take deblocking,
    SAO and partitioning limits from a fixed configuration. For field 606, let
@@ -243,7 +243,7 @@ pub(crate) static TEXT: [u8; 69964] =
    OUT again.
 |C4 Cause: A slice has another decoding input than in the source. `slice` is
    its address in the subpicture, `part` what differs first, and `field`, for
-   parts 2 to 5, the first field that differs.
+   parts 2 to 5, the first field that differs (otherwise 0).
    Fix: It depends on the part:
    - part 1, NAL unit type, TemporalId, start of a coded layer video sequence,
      end of sequence before it, or picture order count: a picture or an end of
