@@ -1,9 +1,9 @@
 #!/usr/bin/env python3
-r"""Makes crates/vx_explain/src/text.rt, what `--explain` prints of rules and fields, from docs/REFUSALS.md and docs/FIELDS.md.
+r"""Makes crates/vx_explain/src/text.rt, what `--explain` prints of rules and fields, from docs/REFUSALS.md and docs/generated/FIELDS.md.
 
     scripts/explanations.py [--check]
 
-The two pages are the source: change a rule there, and a field in crates/vx_fields (scripts/list-fields.sh makes docs/FIELDS.md), and run
+The two pages are the source: change a rule there, and a field in crates/vx_fields (scripts/list-fields.sh makes the page on fields), and run
 this. With --check nothing is written; the status is 1 if text.rt isn't what the pages make.
 
 The text is a run of parts with a bar between two. A part begins with its word and a blank, and is what the program prints, in lines of at
@@ -21,10 +21,10 @@ import textwrap
 ROOT = pathlib.Path(__file__).resolve().parent.parent
 TEXT = ROOT / "crates/vx_explain/src/text.rt"
 WIDTH = 78
-# Fields with a star that `merge` compares, as docs/FIELDS.md says above its lists.
+# Fields with a star that `merge` compares, as docs/generated/FIELDS.md says above its lists.
 MERGED = ("general_profile_idc", "general_tier_flag", "ptl_frame_only_constraint_flag", "ptl_multilayer_enabled_flag")
 HEAD = """\
-//! What `--explain` prints of rules and fields, as `scripts/explanations.py` makes it of docs/REFUSALS.md and docs/FIELDS.md.
+//! What `--explain` prints of rules and fields, as `scripts/explanations.py` makes it of docs/REFUSALS.md and docs/generated/FIELDS.md.
 
 /// The parts, with a bar between two. Each begins with its word and a blank, and is what is printed for this word.
 """
@@ -93,12 +93,12 @@ def fields(page):
 
 def pages():
     """The texts of the pages on refusals and on fields."""
-    return [(ROOT / f"docs/{name}.md").read_text() for name in ("REFUSALS", "FIELDS")]
+    return [(ROOT / f"docs/{name}.md").read_text() for name in ("REFUSALS", "generated/FIELDS")]
 
 
 def main():
     """Writes the text, or compares it."""
-    parser = argparse.ArgumentParser(description="Makes the text of crates/vx_explain from docs/REFUSALS.md and docs/FIELDS.md.")
+    parser = argparse.ArgumentParser(description="Makes the text of crates/vx_explain from docs/REFUSALS.md and docs/generated/FIELDS.md.")
     parser.add_argument("--check", action="store_true", help="only compare; the status is 1 where it differs")
     refusals, numbers = pages()
     parts = [*rules(refusals), *fields(numbers)]

@@ -1,4 +1,4 @@
-//! What `--explain` prints of rules and fields, as `scripts/explanations.py` makes it of docs/REFUSALS.md and docs/FIELDS.md.
+//! What `--explain` prints of rules and fields, as `scripts/explanations.py` makes it of docs/REFUSALS.md and docs/generated/FIELDS.md.
 
 /// The parts, with a bar between two. Each begins with its word and a blank, and is what is printed for this word.
 pub(crate) static TEXT: [u8; 69984] =
