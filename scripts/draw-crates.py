@@ -10,6 +10,8 @@ its words here. With --check nothing is written, and the status is 1 if the draw
 Lines that pass a row have a lane there, so none crosses a box. Rows are ordered so that few lines cross.
 """
 import argparse
+import functools
+import math
 import pathlib
 import sys
 from html import escape
@@ -78,6 +80,7 @@ def uses(text):
     named = {line.partition(":")[0].split()[0]: line.partition(":")[2].split() for line in lines if ":" in line}
     named = {name: [use for use in found if use in named] for name, found in named.items()}
 
+    @functools.cache
     def below(name):
         return set(named[name]).union(*map(below, named[name]))
 
@@ -164,11 +167,12 @@ def ordered(nodes, lines):
         better = True
         while better:
             better = False
-            for row in nodes:
+            for number, row in enumerate(nodes):
+                near = nodes[max(number - 1, 0) : number + 2]
                 for k in range(len(row) - 1):
-                    before = total(nodes, below)
+                    before = total(near, below)
                     row[k], row[k + 1] = row[k + 1], row[k]
-                    if total(nodes, below) < before:
+                    if total(near, below) < before:
                         better = True
                     else:
                         row[k], row[k + 1] = row[k + 1], row[k]
@@ -216,7 +220,7 @@ def places(nodes, lines):
             if isinstance(node, tuple):
                 chains.setdefault(node[:2], []).append(node)
     for turn in range(TURNS):
-        straight = {chain: sum(at[lane] for lane in lanes) / len(lanes) for chain, lanes in chains.items()}
+        straight = {chain: math.fsum(at[lane] for lane in lanes) / len(lanes) for chain, lanes in chains.items()}
         for row in nodes if turn % 2 else reversed(nodes):
             wanted, weights = {}, {}
             for node in row:
@@ -224,7 +228,7 @@ def places(nodes, lines):
                 if isinstance(node, tuple):
                     pulls.append((STRAIGHT, straight[node[:2]]))
                 weights[node] = sum(weight for weight, _ in pulls)
-                wanted[node] = sum(weight * place for weight, place in pulls) / weights[node]
+                wanted[node] = math.fsum(weight * place for weight, place in pulls) / weights[node]
             at.update(placed(row, wanted, weights))
     # In the middle of the drawing.
     left, right = (pick(at[node] + side * (edge(node) - MARGIN) for node in at) for pick, side in ((min, -1), (max, 1)))
