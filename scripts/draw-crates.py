@@ -80,7 +80,7 @@ def uses(text):
     named = {line.partition(":")[0].split()[0]: line.partition(":")[2].split() for line in lines if ":" in line}
     named = {name: [use for use in found if use in named] for name, found in named.items()}
 
-    @functools.cache
+    @functools.lru_cache(None)
     def below(name):
         return set(named[name]).union(*map(below, named[name]))
 
