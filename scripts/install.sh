@@ -1,26 +1,19 @@
 #!/bin/bash
-# Proves and builds the program, and puts it into a folder as `goosequince`, with its man page: into share/man/man1 beside a folder
-# bin, and else into the folder itself. Each crate that is proved has a line on standard error.
-# Usage: scripts/install.sh DIR   (needs the Rattle kit's `rt` on the path)
-#
-# With nothing kept, all of it is some 57 minutes of one processor's work. `rt run` alone took 38 minutes on four processors, since
-# it proves one crate after another, and gives the large ones at the top one job or two. scripts/prove-below.py has several crates
-# proved at once, each with more jobs: along the longest way (vx_bits, vx_table, vx_rpl, vx_sps, vx_ph, vx_sh, vx_pic, vx_write,
-# vx_frame, vx_merge, vx_run, some 40 minutes of work) four jobs should halve the time, and the other crates fill what these leave idle. So 20 to
-# 25 minutes are expected; that isn't measured.
+# Proves and builds the program, installs it in a folder as `goosequince`, and runs the commands of the guide with it. The man page goes
+# to share/man/man1 beside a folder bin, and otherwise into the folder itself. Each proved crate has a line on standard error.
+# Usage: scripts/install.sh DIR [JOBS]   (needs the Rattle kit's `rt` on the path; JOBS checks run at once, by default one a processor)
 set -euo pipefail
-[ $# = 1 ] || { echo "usage: scripts/install.sh DIR" >&2; exit 2; }
+case $# in 1|2) ;; *) echo "usage: scripts/install.sh DIR [JOBS]" >&2; exit 2;; esac
 mkdir -p "$1"
 to=$(cd "$1" && pwd)
 scripts=$(cd "$(dirname "$0")" && pwd)
 cd "$scripts/../crates/vx_app"
 
-echo "proving the crates below the program, half an hour or more where none was proved before" >&2
-"$scripts/prove-below.py" vx_app >&2
+echo "proving the crates below the program, which takes long if none was proved before (docs/generated/COSTS.md)" >&2
+"$scripts/prove-below.py" ${2:+--jobs "$2"} vx_app >&2
 
 # `rt run` proves the program itself, builds it in out/, and runs it.
-jobs=$(nproc)
-rt run --jobs $((jobs < 8 ? jobs : 8)) -- --version > out.log 2>&1 || { cat out.log >&2; rm -f out.log; exit 1; }
+rt run --jobs 1 -- --version > out.log 2>&1 || { cat out.log >&2; rm -f out.log; exit 1; }
 rm -f out.log
 echo "vx_app: proved and built" >&2
 install -m 755 out/vx_app "$to/goosequince"
@@ -30,7 +23,8 @@ mkdir -p "$pages"
 "$to/goosequince" --help | "$scripts/man-page.py" > "$pages/goosequince.1"
 
 "$to/goosequince" --version
-echo "To try it:"
-echo "    $to/goosequince merge 0,0=$PWD/data/a.266 64,0=$PWD/data/a.266 > /tmp/m.266"
-echo "    $to/goosequince show /tmp/m.266"
-echo "    man $pages/goosequince.1"
+"$scripts/guide.sh" "$to/goosequince"
+film=$(cd "$scripts/../examples/film" && pwd)
+echo "A first merge:"
+echo "    $to/goosequince merge 0,0=$film/left.266 256,0=$film/right_low.266 > merged.266"
+echo "    $to/goosequince show merged.266"
