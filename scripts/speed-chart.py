@@ -137,7 +137,7 @@ def measured(speed, small, capacity, found):
     yield "<!-- Made by scripts/speed-chart.py from docs/measured. Don't edit it. -->"
     yield "# All measurements of speed"
     yield ""
-    yield "For whoever compares a change with what was measured before it. [SPEED.md](../SPEED.md) has the ones that matter for planning and says how to repeat them."
+    yield "For contributors who compare a change with earlier measurements. [SPEED.md](../SPEED.md) has those that matter for planning, and says how to repeat them."
     yield ""
     yield "| script | what runs | measured | compared with | memory | commit | kit | machine | date | load |"
     yield "|---|---|--:|---|--:|---|---|---|---|---|"
