@@ -1,14 +1,15 @@
 #!/bin/bash
-# Lists the twenty functions, and files of definitions or lemmas, whose check takes most, with the part that takes most of each.
-# Usage: scripts/costs.sh [CRATE ..]   (every crate where none is named)
+# Lists the twenty functions, and files of definitions or lemmas, whose check takes longest, with the part that takes most of each. After
+# these it lists each further function that takes more than three seconds, and how many such functions there are.
+# Usage: scripts/costs.sh [CRATE ..]   (every crate if none is named)
 #
-# It proves nothing, and reads what checks have kept: a check keeps each module in crates/CRATE/out/incremental as soon as it is
-# done, so what lies between a module and the one kept before it is what that module took. This is right for crates that were
-# proved from nothing with one job each, as by `rt all check --jobs 4` in a new checkout (several crates side by side do no harm,
-# but on a busy machine all takes longer). What a later check proves anew comes behind a pause, of which up to two minutes are
-# taken for the first module's time; longer ones are left out.
+# It proves nothing, and reads what checks have kept. A check keeps each module in crates/CRATE/out/incremental as soon as it is
+# done, so a module took the time between the module kept before it and itself. This is right for crates that were proved from
+# nothing with one job each, as by `rt all check --jobs 4` in a new checkout. Several crates at once do no harm, but on a busy machine
+# everything takes longer. What a later check proves anew comes after a pause. Pauses of up to two minutes count as the first module's
+# time, and longer ones are left out.
 #
-# The parts of a function: Lts is what the borrow checker's rules leave to show, Answers what answers its goals, written or
+# The parts of a function: Lts is what the borrow checker's rules leave to show, Answers is the answers to its goals, written or
 # searched, Proof and Tie put both together.
 set -euo pipefail
 cd "$(dirname "$0")/../crates"
@@ -16,7 +17,7 @@ cd "$(dirname "$0")/../crates"
 for crate; do
     kept=$crate/out/incremental
     [ -d "$kept" ] || { echo "$crate: no check has kept anything here" >&2; continue; }
-    find "$kept" -name "Rattle-$crate[-.]*.oantt" -printf '%T@ %f\n' | sort -n | awk -v crate="$crate" '
+    find "$kept/" -name "Rattle-$crate[-.]*.oantt" -printf '%T@ %f\n' | sort -n | awk -v crate="$crate" '
         {
             took = NR > 1 ? $1 - before : 0
             before = $1
@@ -35,4 +36,13 @@ for crate; do
             }
         }
         END { for (name in sum) printf "%.1f s  %s  %s  (%s %.1f)\n", sum[name], crate, name, which[name] == "" ? "text" : which[name], most[name] }'
-done | sort -rn | head -20
+done | sort -rn | awk '
+    # A file of definitions or lemmas has no part.
+    { slow = $1 > 3 && $0 !~ /\(text [0-9.]+\)$/ }
+    NR <= 20 { print }
+    NR > 20 && slow { rest = rest $0 "\n" }
+    slow { count++; seconds += $1 }
+    END {
+        if (rest != "") printf "\nother functions above three seconds:\n%s", rest
+        printf "\nfunctions above three seconds: %d, with %.0f s in all\n", count, seconds
+    }'
