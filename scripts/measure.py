@@ -1,11 +1,12 @@
 #!/usr/bin/env python3
-"""Runs a command three times, throws its output away, and tells its processor time (the least of the three) and its peak resident memory.
+"""Runs a command three times, discards its output, and prints its processor time (the least of the three) and its peak resident memory.
 
 usage: scripts/measure.py NAME [--bytes N] [--per N WORD] -- COMMAND ..
 
-Both are of the command's own process, from its first instruction to its end: its clock, and VmHWM as it stands when it ends, where it is
-stopped by ptrace. (What the system tells of an ended child, ru_maxrss, has the memory of the measuring program in it.) With --bytes also
-the rate at which it took so many bytes, and with --per the time for each of N things.
+Both are of the command's own process, from its first instruction to its end: its clock, and VmHWM at its end, where ptrace stops it.
+(ru_maxrss of an ended child has the memory of the measuring program in it.) With --bytes it also prints the rate for N bytes, and
+with --per the time for each of N things. Figures that a page shows go into docs/measured by hand, with commit, kit, machine, date
+and load; scripts/speed-chart.py makes the tables.
 """
 import ctypes
 import os
@@ -25,7 +26,7 @@ def ptrace(request, pid, number):
 
 
 def used(pid):
-    """The processor time of a process so far."""
+    """Returns the processor time of a process so far."""
     clock = ctypes.c_int()
     if LIBC.clock_getcpuclockid(pid, ctypes.byref(clock)):
         raise OSError("no clock")
@@ -33,13 +34,13 @@ def used(pid):
 
 
 def peak_of(pid):
-    """The greatest resident memory of a process so far, in KiB."""
+    """Returns the greatest resident memory of a process so far, in KiB."""
     with open(f"/proc/{pid}/status") as status:
         return next(int(line.split()[1]) for line in status if line.startswith("VmHWM:"))
 
 
 def begun(command):
-    """The process of a command, stopped at its first instruction."""
+    """Starts a command and returns its process, stopped at its first instruction."""
     pid = os.fork()
     if pid == 0:
         null = os.open(os.devnull, os.O_RDWR)
@@ -58,7 +59,7 @@ def begun(command):
 
 
 def measured(command):
-    """The processor time, the peak and the status of one run."""
+    """Runs a command and returns its processor time, its peak and its status."""
     pid = begun(command)
     first, took, peak, passed = used(pid), None, None, 0
     while True:
@@ -76,18 +77,18 @@ def main(name, *words):
     options, command = list(words[:split]), list(words[split + 1:])
     runs = [measured(command) for _ in range(TRIALS)]
     took, peak = min(run[0] for run in runs), max(run[1] for run in runs)
-    told = [f"{took * 1000:.1f} ms of processor time"]
+    said = [f"{took * 1000:.1f} ms of processor time"]
     while options:
         option = options.pop(0)
         count = int(options.pop(0))
         if option == "--bytes":
-            told.append(f"{count / took / 1048576:.0f} MiB/s")
+            said.append(f"{count / took / 1048576:.0f} MiB/s")
         elif option == "--per":
-            told.append(f"{took / count * 1e6:.2f} us a {options.pop(0)}")
+            said.append(f"{took / count * 1e6:.2f} us a {options.pop(0)}")
         else:
             sys.exit(__doc__)
     statuses = sorted({run[2] for run in runs})
-    print(f"{name}: {', '.join(told)}, peak {peak} KiB, status {' '.join(map(str, statuses))}", flush=True)
+    print(f"{name}: {', '.join(said)}, peak {peak} KiB, status {' '.join(map(str, statuses))}", flush=True)
 
 
 if len(sys.argv) < 4 or "--" not in sys.argv:
