@@ -64,7 +64,8 @@ def runs_under_way():
     for number in numbers():
         try:
             words = read(f"/proc/{number}/cmdline").split("\0")
-            if "ci" in words and any(os.path.basename(it) == "rt" for it in words[: words.index("ci")]):
+            # A program that only starts rt, as timeout does, has the same words after its own.
+            if re.match(r"rt$|python", os.path.basename(words[0])) and "ci" in words and os.path.basename(words[words.index("ci") - 1]) == "rt":
                 found[number] = os.readlink(f"/proc/{number}/cwd")
         except OSError:
             continue
