@@ -28,7 +28,10 @@ run() {
     while kill -0 "$job" 2> /dev/null; do
         sleep 1
         [ ${#words[@]} -gt 0 ] && [ -z "$began" ] && grep -q '^case=' "$err" 2> /dev/null && began=$SECONDS
-        if [ -n "$began" ] && [ $((SECONDS - began)) -ge 50 ]; then kill "$job"; fi
+        if [ -n "$began" ] && [ $((SECONDS - began)) -ge 50 ]; then
+            kill "$job" 2> /dev/null || true
+            break
+        fi
     done
     wait "$job" || true
 }
