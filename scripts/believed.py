@@ -1,5 +1,5 @@
 #!/usr/bin/env python3
-"""Makes docs/BELIEVED.md: which definitions, tables and types each promise rests on, found by names.
+"""Makes docs/generated/BELIEVED.md and docs/generated/believed/: what each promise rests on, found by names.
 
     scripts/believed.py [--check | --of NAME]
 
@@ -7,11 +7,12 @@ A definition of specs/ rests on what its text names: what its file defines, and 
 constants and tables of src/, by the `use` lines of Rust, types by what their fields are and by what clauses see of them, and
 macros that write rows. From the definitions that say a promise this leads to all that it rests on.
 
-With --check nothing is written, and the status is 1 where the page isn't what would be. --of prints what the definitions of
-that name rest on. What can't be resolved is said on standard error.
+With --check nothing is written, and the status is 1 if a page isn't what would be written. --of prints what the definitions of
+that name rest on. Names that can't be resolved are reported on standard error. scripts/numbers.py takes its numbers from here.
 """
 import argparse
 import bisect
+import functools
 import pathlib
 import re
 import sys
@@ -20,27 +21,28 @@ from dataclasses import dataclass, field
 
 ROOT = pathlib.Path(__file__).resolve().parent.parent
 CRATES = ROOT / "crates"
-PAGE = ROOT / "docs/BELIEVED.md"
+PAGE = ROOT / "docs/generated/BELIEVED.md"
+FOLDER = ROOT / "docs/generated/believed"
 # The function whose clauses are the promise as a whole, and the traits that it asks of what it is handed.
 RUN = ("vx_run.src.program", "run")
 TRAITS = {("vx_io.src.read", "Source"), ("vx_io.src.write", "Sink")}
-# Each promise: a letter for the lists, its name, and the definitions that say it.
+# Each promise: its key in scripts/numbers.py, a letter for the lists, its name, and the definitions that say it.
 READERS = "vx_pic.specs.H266.AreOfH266"
 PROMISES = (
-    ("s", "`show`", ("vx_run.specs.Show.Shows",)),
-    ("e", "`extract`", ("vx_run.specs.Extract.Extracts",)),
-    ("c", "`check extract`", ("vx_run.specs.Extract.Checks",)),
-    ("m", "`merge`", ("vx_run.specs.Merge.Merges",)),
-    ("c", "`check merge`", ("vx_run.specs.Merge.ChecksMerge",)),
-    ("p", "`play`", ("vx_run.specs.Play.Plays",)),
-    ("v", "`verify merge`", ("vx_run.specs.Verify.Verifies",)),
-    ("t", "`trial`", ("vx_run.specs.Trial.Trials",)),
-    ("", "what `extract` wrote, read again", ("vx_run.specs.ReadAgain.IsReadAgain", READERS)),
-    ("", "what `merge` wrote, read again", ("vx_run.specs.MergeAgain.IsMergedAgain", READERS)),
-    ("", "what `play` wrote, read again", ("vx_run.specs.Play.PlayedIsReadAgain",)),
-    ("h", "the readers of H.266", (READERS,)),
-    ("i", "the decoding input of a slice", ("vx_pic.specs.Inputs.Input", "vx_pic.specs.Inputs.inputs_of")),
-    ("", "`run` and the last write of `main`", ("vx_run.specs.Whole.RunsWhole",)),
+    ("show", "s", "`show`", ("vx_run.specs.Show.Shows",)),
+    ("extract", "e", "`extract`", ("vx_run.specs.Extract.Extracts",)),
+    ("check_extract", "c", "`check extract`", ("vx_run.specs.Extract.Checks",)),
+    ("merge", "m", "`merge`", ("vx_run.specs.Merge.Merges",)),
+    ("check_merge", "c", "`check merge`", ("vx_run.specs.Merge.ChecksMerge",)),
+    ("play", "p", "`play`", ("vx_run.specs.Play.Plays",)),
+    ("verify", "v", "`verify merge`", ("vx_run.specs.Verify.Verifies",)),
+    ("trial", "t", "`trial`", ("vx_run.specs.Trial.Trials",)),
+    ("extract_again", "", "what `extract` wrote, read again", ("vx_run.specs.ReadAgain.IsReadAgain", READERS)),
+    ("merge_again", "", "what `merge` wrote, read again", ("vx_run.specs.MergeAgain.IsMergedAgain", READERS)),
+    ("play_again", "", "what `play` wrote, read again", ("vx_run.specs.Play.PlayedIsReadAgain",)),
+    ("readers", "h", "the readers of H.266", (READERS,)),
+    ("input", "i", "the decoding input of a slice", ("vx_pic.specs.Inputs.Input", "vx_pic.specs.Inputs.inputs_of")),
+    ("whole", "", "`run` and the last write of `main`", ("vx_run.specs.Whole.RunsWhole",)),
 )
 WORD = r"[^\W\d][\w']*"
 # A clause of H.266, as `7.4.3.4`, `C.6`, `clause 9` or `Annex B`; and what says that something is the project's own.
@@ -677,30 +679,51 @@ def roots_of(house, names):
     return found
 
 
-# ---- the page
+# ---- the pages
 
-HEAD = """\
+INDEX = """\
+<!-- Made by scripts/believed.py from the files of crates/: don't edit it. -->
+
 # What must be believed
 
-The proofs say that the code does what the definitions say. That the definitions say what H.266 says, and what is promised, nobody proves: somebody has to read them. This page says which ones. `scripts/believed.py` makes it, and its `--check` says whether it is what it would be.
+For reviewers. This page counts the definitions that each promise rests on. A page for each [crate](#the-crates) lists them.
 
-## The promises, and how much each rests on
+The proofs show that the code does what the definitions say. No proof shows that the definitions say what H.266 says, or what you expect of a command. You have to read them for that. [DEFINITIONS](../DEFINITIONS.md) says in which order.
+
+## What each promise rests on
 
 """
 READING = """
-The promises are those of [PROMISE.md](PROMISE.md) and, of the other commands, of [PROVED.md](PROVED.md); `run` as a whole is `Runs`, all clauses of `run`, and what it asks of sources and sinks. How the numbers come about:
+[PROMISE](../PROMISE.md) states each promise in full. `run` as a whole is `Runs`, all clauses of `run`, and what it requires of sources and sinks.
 
-- A definition of `specs/` rests on what its text names: what stands in its file, and what the `use` lines of that file bring. That leads from the definitions that say a promise to all that it rests on. A record counts once with its fields, and what is given by cases once with its cases. Names that a definition binds for itself further in aren't told from those of its file, so something may be counted too much; nothing is left out. {axioms}
-- Lines are those with something, comments aside. A definition cites a clause of H.266 (`7.4.3.4`, `C.6`), or is said to be our own, the project's, by the comment right above it, or above the one that it goes with; where that says neither, by the heading that it stands under, up to the next; and where that says neither, by the comment that its file begins with. What says both cites. Clauses are numbered as in the edition of 08/2020. Those of which neither is said are [counted](#what-neither-cites-nor-is-our-own) at the end.
-- Tables are constants of `src/tables.rt`, written by the macros of `vx_table` (`src/macros.rt`) in the look of H.266's syntax tables. Fields are the constants of `vx_fields` ([FIELDS.md](FIELDS.md)). Constants are all others: the numbers of rules ([REFUSALS.md](REFUSALS.md)), names for what tables compute, lists of fields. Types are structs and enums of `src/` that definitions speak of.
-- Words of the kit (`length`, `map`, `Appends`) aren't counted; they stand at the end.
-- Nothing in `specs/inner/` and `specs/laws/` is listed here, nor a statement of a law that no promise rests on, nor what a call of a library alone promises: the proofs need these, but what is promised doesn't.
+How to read the numbers:
 
-## From the promise to the ground
+- **Definitions.** A definition in `specs/` rests on each name in its text: those of its own file, and those that the `use` lines of the file bring. Starting from the definitions that say a promise, this leads to everything that the promise rests on. A record counts once with its fields, a type given by cases once with its cases. A name that a definition binds itself may be taken for one of its file. So a definition may be counted too much, and none is left out. {axioms}
+- **Lines.** Lines of the definitions without comments and empty lines.
+- **H.266 or our own.** A definition cites a clause of H.266 (`7.4.3.4`, `C.6`), or it is marked as the project's own. The comment above it says which, else the heading above it, else the comment at the start of its file. If both are said, it counts as citing. Clauses are those of the edition of 08/2020. {neither}
+- **Tables.** Constants of `src/tables.rt`, written with the macros of `vx_table` in the form of H.266's syntax tables. Their lines are counted apart.
+- **Fields.** The constants of `vx_fields`, one for each syntax element; [FIELDS](FIELDS.md) lists them.
+- **Constants.** All other constants: numbers of rules ([REFUSALS](../REFUSALS.md)), names for what tables compute, lists of fields.
+- **Types.** Structs and enums of `src/` that definitions speak of.
+- **Not counted.** [Words of the Rattle kit](#words-of-the-kit) such as `length`; everything in `specs/inner/` and `specs/laws/`; laws that no promise rests on; contracts that only the library has. The proofs need these, the promises don't.
 
-Each crate, and in it each file, stands before what it rests on; in a file definitions have the order of the file, which is from the ground up. A line has the first sentence of the comment that stands above a definition, or above the one that it goes with, or the heading where there is none; where the rest of the comment cites a clause, that follows. Read up from the end, the list goes from the ground to the promise.
+## The crates
 
-Letters say which promises rest on it: `s` `show`, `e` `extract`, `c` a `check`, `m` `merge`, `p` `play`, `v` `verify`, `t` `trial`; `h` the readers of H.266, `i` the decoding input of a slice. What has none is of `run` itself: its words, statuses and lines. They stand at the file where all its lines have the same.
+Each crate stands before those that it rests on. Read from the end, the list goes from the ground up to the promises. Each page lists the definitions of one crate, with the first sentence of their comments.
+
+| crate | what it is | definitions | lines | tables | their lines | other constants | types |
+|---|---|--:|--:|--:|--:|--:|--:|
+"""
+CRATE = """\
+<!-- Made by scripts/believed.py from the files of crates/{crate}: don't edit it. -->
+
+# `{crate}`: what must be believed
+
+For reviewers. {counts} [What must be believed](../BELIEVED.md) has the totals, and says how they are counted.
+
+Files stand before those that they rest on. Within a file, definitions have its order, from the ground up. A line has the first sentence of the comment above a definition, or of the comment above the definition that it goes with. Clauses that the rest of that comment cites follow in brackets.
+
+Letters in brackets say which promises rest on a definition: `s` `show`, `e` `extract`, `c` a `check`, `m` `merge`, `p` `play`, `v` `verify`, `t` `trial`, `h` the readers of H.266, `i` the decoding input of a slice. (run) marks what only `run` itself rests on: arguments, statuses and lines. If all definitions of a file have the same letters, these stand beside its name.
 """
 
 
@@ -724,26 +747,35 @@ def many(n, word):
     return f"{number(n)} {word}{'' if n == 1 else 's'}"
 
 
-def promise_row(letter, name, says, found):
-    """A line of the table of promises."""
+def counts_of(found):
+    """How much is among these, by name, in the order of the columns."""
     definitions, tables = of_kind(found, "definition"), of_kind(found, "table")
     constants = of_kind(found, "constant")
     fields = [item for item in constants if item.crate == "vx_fields" and not item.module.startswith("vx_fields.src.names")]
-    counts = (
-        len(definitions), lines_of(definitions), len({item.module for item in definitions}),
-        sum(item.cites for item in definitions), sum(item.is_own for item in definitions), len(tables), lines_of(tables),
-        len(fields), len(constants) - len(fields), len(of_kind(found, "type")),
-    )  # fmt: skip
-    says = ", ".join(f"`{path.rpartition('.')[2]}`" for path in says)
-    return f"| {name} | {letter and f'`{letter}`'} | {says} | " + " | ".join(map(number, counts)) + " |\n"
+    return {
+        "definitions": len(definitions),
+        "lines": lines_of(definitions),
+        "files": len({item.module for item in definitions}),
+        "cited": sum(item.cites for item in definitions),
+        "own": sum(item.is_own for item in definitions),
+        "tables": len(tables),
+        "table_lines": lines_of(tables),
+        "fields": len(fields),
+        "constants": len(constants) - len(fields),
+        "types": len(of_kind(found, "type")),
+    }
 
 
-def promise_table(all_found, found):
+def promise_table(everything):
     """The table of promises."""
-    columns = "promise | | said by | definitions | lines | files | cite a clause | say that they are our own | tables | their lines | fields | constants | types"
-    rows = [promise_row(letter, name, says, found[name]) for letter, name, says in PROMISES]
-    whole = promise_row("", "**`run` as a whole**", ("run", "Runs"), all_found)
-    return f"| {columns} |\n|{'---|' * 3}{'--:|' * 10}\n{whole}{''.join(rows)}"
+    columns = "promise | | said by | definitions | lines | files | cite H.266 | our own | tables | their lines | fields | other constants | types"
+    rows = [("run", "", "**`run` as a whole**", ("run", "Runs")), *PROMISES]
+    text = f"| {columns} |\n|{'---|' * 3}{'--:|' * 10}\n"
+    for key, letter, name, says in rows:
+        says = ", ".join(f"`{path.rpartition('.')[2]}`" for path in says)
+        counts = " | ".join(map(number, counts_of(everything[key]).values()))
+        text += f"| {name} | {letter and f'`{letter}`'} | {says} | {counts} |\n"
+    return text
 
 
 def order_of(nodes, edges):
@@ -767,7 +799,7 @@ def edges_between(items, name_of):
 
 
 def groups_of(module, found):
-    """The definitions of a file that are found, together where one comment or heading stands above them; and what that says of them."""
+    """The definitions of a file that are found, together if one comment or heading stands above them; and what that says of them."""
     groups, heading = [], None
     for item in module.items.values():
         if item.comment or item.heading != heading:
@@ -782,11 +814,11 @@ def groups_of(module, found):
 
 def ordered(letters):
     """Letters, each once and in the order of the promises."""
-    return "".join(dict.fromkeys(letter for letter, _, _ in PROMISES if letter in letters))
+    return "".join(dict.fromkeys(letter for _, letter, _, _ in PROMISES if letter in letters))
 
 
 def source_mark(text, shown):
-    """What a text cites, or that it says that something is our own, where that doesn't stand in what is shown of it."""
+    """What a text cites, or that it says that something is our own, if that doesn't stand in what is shown of it."""
     cited = [clause for clause in dict.fromkeys(CLAUSE.findall(text)) if clause not in shown]
     own = ["our own"] if OWN.search(text) and not CLAUSE.search(text) and not OWN.search(shown) else []
     return f" ({', '.join(cited or own)})" if cited or own else ""
@@ -806,7 +838,7 @@ def definition_lines(module, found, letters):
 
 
 def file_text(module, found, letters):
-    """What the page has of a file of definitions."""
+    """What a page has of a file of definitions."""
     own = {letters[item] for item in module.items.values() if item in found}
     mark = f" ({own.pop() or 'run'})" if len(own) == 1 else ""
     name = path_of(module.name).removeprefix("specs/")
@@ -828,31 +860,46 @@ def names_by_file(items):
 
 
 def beside(house, crate, found):
-    """What the page has of the code of a crate."""
+    """What a page has of the code of its crate."""
     items = [item for item in house.items("table", "constant", "type", "macro") if item.crate == crate and item in found]
     lines = []
     for kind in ("table", "macro", "constant", "type"):
         if kept := of_kind(items, kind):
             size = f", {many(lines_of(kept), 'line')}" if kind in ("table", "macro") else ""
             lines.append(f"- {many(len(kept), kind)}{size}: {names_by_file(kept)}\n")
-    return ("\nBeside them in `src/`:\n\n" + "".join(lines)) if lines else ""
+    return ("\n## In `src/`\n\n" + "".join(lines)) if lines else ""
 
 
-def crate_text(house, crate, found, letters):
-    """What the page has of a crate."""
+def crate_page(house, crate, found, letters):
+    """The page of a crate."""
     modules = [m for m in house.modules.values() if m.name.startswith(f"{crate}.specs.") and not is_apart(m.name)]
     kept = {item for m in modules for item in m.items.values() if item in found}
     names = {item.module for item in kept}
     order = order_of(names, edges_between(kept, lambda item: item.module))
-    others = [m.name.rpartition(".")[2] for m in modules if m.items and m.name not in names]
+    others = [f"`{m.name.rpartition('.')[2]}.antt`" for m in modules if m.items and m.name not in names]
     total = sum(len(m.items) for m in modules)
-    head = f"\n### `{crate}`: {number(len(kept))} of {many(total, 'definition')}, {many(lines_of(kept), 'line')}\n"
-    skip = f"\nNothing of {', '.join(others)}.\n" if others and kept else ""
-    return head + "".join(file_text(house.modules[name], found, letters) for name in order) + beside(house, crate, found) + skip
+    size = f"({many(lines_of(kept), 'line')})"
+    if kept:
+        counts = f"Promises rest on {number(len(kept))} of the {many(total, 'definition')} in its `specs/` {size}, listed here."
+    else:
+        counts = "No promise rests on a definition in its `specs/`."
+    skip = f"\nFiles that no promise rests on: {', '.join(others)}.\n" if others and kept else ""
+    files = "".join(file_text(house.modules[name], found, letters) for name in order)
+    definitions = f"\n## In `specs/`\n{files}{skip}" if kept else ""
+    return CRATE.format(crate=crate, counts=counts) + definitions + beside(house, crate, found)
+
+
+def crate_row(house, crate, found):
+    """The line of a crate in the index."""
+    counts = counts_of([item for item in found if item.crate == crate])
+    heads = [house.modules[name].head for name in (f"{crate}.src.lib", f"{crate}.src.main") if name in house.modules]
+    shown = (counts[name] for name in ("definitions", "lines", "tables", "table_lines", "constants", "types"))
+    what = re.sub(r"\[(`[^`]*`)\]", r"\1", sentence(heads[0])) if heads else ""
+    return f"| [`{crate}`](believed/{crate}.md) | {what} | {' | '.join(map(number, shown))} |\n"
 
 
 def twice_text(house, found):
-    """The names that mean two things; `>>=` aside, which is how a do block is read, of whatever it is."""
+    """The names that mean two things; except `>>=`, which is how a do block is read, whatever it is of."""
     meanings = defaultdict(list)
     for item in house.items("definition"):
         for name in (item.name, *item.parts):
@@ -868,9 +915,9 @@ def twice_text(house, found):
     return f"""
 ## Names that mean two things
 
-{many(len(both), 'name') if both else 'No name'} of `specs/` that a promise rests on mean{'' if len(both) > 1 else 's'} two things or more in what promises rest on. A star stands before a place that no promise rests on.
+{many(len(both), 'name') if both else 'No name'} of `specs/` mean{'' if len(both) > 1 else 's'} two things among what promises rest on.
 
-{lines}{lines and chr(10)}{number(len(beside_it))} mean one thing there, and another elsewhere in `specs/`: {'; '.join(beside_it)}.
+{lines}{lines and chr(10)}{many(len(beside_it), 'name')} mean one thing there and another elsewhere in `specs/`. A star marks a place that no promise rests on: {'; '.join(beside_it)}.
 """
 
 
@@ -890,34 +937,23 @@ def dead_text(house, found, public, inner):
     return f"""
 ## What serves no promise
 
-Of {number(len(definitions))} definitions {number(rest)} are named by contracts of public functions, as laws or as what calls say, and by no promise. Of these nothing has to be believed for a promise. Outside `specs/inner/` no contract that others see rests on these:
+`specs/` has {many(len(definitions), 'definition')}. {number(rest)} of them are named by contracts of public functions, or by laws, and by no promise. You need none of these to believe a promise. The following lie outside `specs/inner/`, and no public contract rests on them:
 
-- named by contracts of inner functions, or by bodies, alone: {bodies};
-- named by proofs alone: {proofs};
-- named by nothing, also in `specs/inner/`: {nothing}.
+- named only by contracts of private functions, or by bodies: {bodies};
+- named only by proofs: {proofs};
+- named by nothing (here `specs/inner/` counts too): {nothing}.
 """
 
 
-def untold_text(found):
-    """The definitions that cite no clause and aren't said to be our own, by file."""
-    files, definitions = defaultdict(list), of_kind(found, "definition")
-    for item in sorted(definitions, key=lambda item: (item.module, item.line)):
-        if item.source is None:
-            files[f"{item.crate} {item.module.split('.', 2)[2]}"].append(item.name)
-    total = sum(map(len, files.values()))
+def neither(found):
+    """How many definitions cite a clause, say that they are our own, or neither; and which say neither."""
+    definitions = of_kind(found, "definition")
     cite = [item for item in definitions if item.cites]
     by_comment = sum(item.source is item.comment for item in cite)
     own = sum(item.is_own for item in definitions)
-
-    def told(names):
-        return ", ".join(f"`{name}`" for name in names[:8]) + (" .." if names[8:] else "")
-
-    lines = "".join(f"- {file}, {number(len(names))}: {told(names)}\n" for file, names in files.items())
-    return f"""
-## What neither cites nor is our own
-
-Of {many(len(definitions), 'definition')} that a promise rests on {number(len(cite))} cite a clause of H.266, {number(by_comment)} of them by a comment of their own, {number(own)} say that they are our own, and {number(total)} say neither{', by file:' if total else '.'}
-{chr(10) if total else ''}{lines}"""
+    rest = [f"`{item.name}` ({item.crate})" for item in definitions if item.source is None]
+    text = f"Of all {many(len(definitions), 'definition')}, {number(len(cite))} cite a clause, {number(by_comment)} of these by a comment of their own, and {number(own)} are marked as our own."
+    return text + (f" These say neither: {', '.join(sorted(rest))}." if rest else " Each says one of the two.")
 
 
 def kit_text(found):
@@ -931,31 +967,61 @@ def kit_text(found):
     return f"""
 ## Words of the kit
 
-What these mean stands in the Rattle kit (`rt doc`). Operators, as `++`, aside, {number(sum(map(len, modules.values())))} are named:
+The definitions use {number(sum(map(len, modules.values())))} names of the Rattle kit, not counting operators such as `++`. `rt doc` shows what they mean.
 
 {lines}"""
 
 
-def page(house):
-    """The page."""
+@functools.cache
+def house_and_found():
+    """All files, what each promise rests on, by its key, and what contracts name."""
+    house = House()
     public, inner, run = contracts(house)
-    found = {name: closure(roots_of(house, says)) for _, name, says in PROMISES}
-    whole = closure(run)
-    all_found = whole.union(*found.values())
+    found = {key: closure(roots_of(house, says)) for key, _, _, says in PROMISES}
+    return house, {"run": closure(run), **found}, public, inner
+
+
+def numbers():
+    """The numbers of the table of promises, by `PROMISE.WHAT`; for scripts/numbers.py."""
+    _, everything, _, _ = house_and_found()
+    return {f"{key}.{what}": n for key, found in everything.items() for what, n in counts_of(found).items()}
+
+
+def pages():
+    """The text of each page, by its path."""
+    house, everything, public, inner = house_and_found()
+    all_found = set().union(*everything.values())
     letters = defaultdict(str)
-    for letter, name, _ in PROMISES:
-        for item in found[name]:
+    for key, letter, _, _ in PROMISES:
+        for item in everything[key]:
             letters[item] = ordered(letters[item] + letter)
-    crates = {item.crate for item in all_found}
-    order = order_of(crates, edges_between(all_found, lambda item: item.crate))
-    strangers = [item for item in of_kind(all_found, "definition") if item.apart]
-    for item in strangers:
-        trouble(f"{item.path} of {item.crate}: a promise rests on {item.name}, which stands in inner/ or laws/")
-    body = "".join(crate_text(house, crate, all_found, letters) for crate in order)
+    for item in of_kind(all_found, "definition"):
+        if item.apart:
+            trouble(f"{item.path} of {item.crate}: a promise rests on {item.name}, which stands in inner/ or laws/")
+    order = order_of({item.crate for item in all_found}, edges_between(all_found, lambda item: item.crate))
     axioms = [f"`{item.name}` ({item.crate})" for item in of_kind(all_found, "definition") if item.axiom]
-    reading = READING.replace("{axioms}", f"Axioms, without a text: {', '.join(axioms)}." if axioms else "No definition is an axiom: each has its text.")
-    ends = untold_text(all_found) + twice_text(house, all_found) + dead_text(house, all_found, public, inner) + kit_text(all_found)
-    return HEAD + promise_table(whole, found) + reading + body + ends
+    axioms = f"Axioms, without a text: {', '.join(axioms)}." if axioms else "No definition is an axiom."
+    reading = READING.format(axioms=axioms, neither=neither(all_found))
+    rows = "".join(crate_row(house, crate, all_found) for crate in order)
+    ends = twice_text(house, all_found) + dead_text(house, all_found, public, inner) + kit_text(all_found)
+    made = {PAGE: INDEX + promise_table(everything) + reading + rows + ends}
+    return made | {FOLDER / f"{crate}.md": crate_page(house, crate, all_found, letters) for crate in order}
+
+
+def differing(made):
+    """The pages that aren't what they should be, or shouldn't be there."""
+    found = {path: path.read_text() for path in [PAGE, *FOLDER.glob("*.md")] if path.exists()}
+    return sorted(path for path in made.keys() | found.keys() if made.get(path) != found.get(path))
+
+
+def write(made):
+    """Writes the pages, and removes those of crates that promises rest on no more."""
+    FOLDER.mkdir(parents=True, exist_ok=True)
+    for path in differing(made):
+        if path in made:
+            path.write_text(made[path])
+        else:
+            path.unlink()
 
 
 def tell_of(house, name):
@@ -968,22 +1034,22 @@ def tell_of(house, name):
 
 
 def main():
-    """Writes the page, compares it, or tells of a definition."""
-    parser = argparse.ArgumentParser(description="Makes docs/BELIEVED.md, what each promise rests on.")
-    parser.add_argument("--check", action="store_true", help="only compare; the status is 1 where it differs")
+    """Writes the pages, compares them, or tells of a definition."""
+    parser = argparse.ArgumentParser(description="Makes docs/generated/BELIEVED.md and believed/, what each promise rests on.")
+    parser.add_argument("--check", action="store_true", help="only compare; the status is 1 if a page differs")
     parser.add_argument("--of", metavar="NAME", help="print what the definitions of this name rest on")
     asked = parser.parse_args()
-    house = House()
     if asked.of:
-        return tell_of(house, asked.of)
-    made = page(house)
+        tell_of(House(), asked.of)
+        return
+    made = pages()
     for line in sorted(TROUBLE):
         print(line, file=sys.stderr)
     if not asked.check:
-        PAGE.write_text(made)
-    elif not PAGE.exists() or PAGE.read_text() != made:
-        sys.exit(f"{PAGE.relative_to(ROOT)} isn't what the files come to: run {sys.argv[0]}")
-    return None
+        write(made)
+    elif wrong := differing(made):
+        names = ", ".join(str(path.relative_to(ROOT)) for path in wrong)
+        sys.exit(f"not what the files make: {names}; run {sys.argv[0]}")
 
 
 if __name__ == "__main__":
