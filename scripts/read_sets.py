@@ -4,7 +4,7 @@ with the number of its field, and what these tell of pictures. The sets are well
 import pathlib
 import re
 
-FIELDS = pathlib.Path(__file__).resolve().parent.parent / "docs" / "FIELDS.md"
+FIELDS = pathlib.Path(__file__).resolve().parent.parent / "docs" / "generated" / "FIELDS.md"
 NUMBERS = {name: int(number) for number, name in re.findall(r"^\| (\d+) \| `(\w+)`", FIELDS.read_text(), re.M)}
 
 
