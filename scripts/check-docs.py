@@ -83,7 +83,7 @@ BANNED = (
     (r"this text|(?:first|last|earlier|later|present|an older|the older) texts?", "say it of the program, or in CHANGELOG"),
     (r"landings?", "leave it out"),
     (r"no longer|any ?more|formerly|until now|(?:an|the) earlier (?:version|one)s?", "say how it is"),
-    (r"(?:was|were|wasn't|weren't) (?:measured|seen|slower|faster)(?: before)?", "say how it is, with a link to the measurement"),
+    (r"(?:was|were|wasn't|weren't) (?:measured|slower|faster)(?: before)?|(?:wasn't|weren't) seen", "say how it is, with a link to the measurement"),
     (r"the last change", "leave it out"),
     # Numbers (rule 5).
     (r"some (?:\d[\d,]*|two|three|four|five|ten|hundreds?|thousands?|dozens?)", "the number"),
@@ -390,8 +390,8 @@ def c_faults(path, text):
 
 
 def word_count(text):
-    """The words of a page, as `wc -w` counts them, without the marks of numbers."""
-    return len(re.sub(r"<!-- from: .*? -->|<!-- / -->", "", text).split())
+    """The words of a page: what `wc -w` counts, without the marks of numbers, and without the bars and dashes of tables."""
+    return len(re.findall(r"\S*\w\S*", re.sub(r"<!-- from: .*? -->|<!-- / -->", "", text)))
 
 
 def size_faults(path, text):
