@@ -82,7 +82,7 @@ BANNED = (
     # Present state (rule 4).
     (r"this text|(?:first|last|earlier|later|present|an older|the older) texts?", "say it of the program, or in CHANGELOG"),
     (r"landings?", "leave it out"),
-    (r"no longer|any ?more|formerly|until now|(?:an|the) earlier (?:version|one)s?", "say how it is"),
+    (r"no longer|any ?more|formerly|until now|(?:an|the) earlier versions?", "say how it is"),
     (r"(?:was|were|wasn't|weren't) (?:measured|slower|faster)(?: before)?|(?:wasn't|weren't) seen", "say how it is, with a link to the measurement"),
     (r"the last change", "leave it out"),
     # Numbers (rule 5).
@@ -90,7 +90,7 @@ BANNED = (
     (r"as machines go|give or take", "name the machine"),
     # Persons (rule 13).
     (r"we|us|somebody|someone|whoever|anybody", "you, or the part that does it"),
-    (r"one (?:can|may|has|needs|should|must|would|sees|gets|wants|knows|reads)", "you"),
+    (r"(?<!this )(?<!that )(?<!each )(?<!every )(?<!no )(?<!which )(?<!any )(?<!only )one (?:can|may|has|needs|should|must|would|sees|gets|wants|knows|reads)", "you"),
     # The repository stands alone.
     (r"issues? #?\d+|#\d+|[DTRW]\d{1,2}", "say the thing itself"),
     (r"\.\./shared|/(?:work|root|opt|tmp|home)/\S*", "no path of a machine"),
