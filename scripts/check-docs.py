@@ -78,7 +78,7 @@ BANNED = (
     (r"(?<!in )(?:front|fronts) of|(?:a|the|that|this|proper|its) fronts?", "prefix"),
     (r"tells|told|telling", "returns, reports, prints, says"),
     (r"answers? (?:that|with|none|by|how|whether|the|a)|(?:is|are|was|were|be) answered", "returns, reports"),
-    (r"beside(?! (?:it|them|each|one another))", "with, as well as"),
+    (r"beside (?:this|that|these|those|which|what)", "with, as well as, besides"),
     # Present state (rule 4).
     (r"this text|(?:first|last|earlier|later|present|an older|the older) texts?", "say it of the program, or in CHANGELOG"),
     (r"landings?", "leave it out"),
@@ -90,7 +90,7 @@ BANNED = (
     (r"as machines go|give or take", "name the machine"),
     # Persons (rule 13).
     (r"we|us|somebody|someone|whoever|anybody", "you, or the part that does it"),
-    (r"(?<!this )(?<!that )(?<!each )(?<!every )(?<!no )(?<!which )(?<!any )(?<!only )one (?:can|may|has|needs|should|must|would|sees|gets|wants|knows|reads)", "you"),
+    (r"(?:(?<=[.,;:] )|(?<=\bif )|(?<=\bwhen )|(?<=\bthat )|(?<=\bas )|(?<=\bhow )|(?<=\bwhat )|(?<=\band )|(?<=\bwhich ))one (?:can|may|has|needs|should|must|would|sees|gets|wants|knows|reads)", "you, or the part that does it"),
     # The repository stands alone.
     (r"issues? #?\d+|#\d+|[DTRW]\d{1,2}", "say the thing itself"),
     (r"\.\./shared|/(?:work|root|opt|tmp|home)/\S*", "no path of a machine"),
@@ -303,7 +303,7 @@ def name_faults(path, text):
             if code.split("/")[0] in FOLDERS and not path_exists(code, path):
                 yield line, f"no file `{code}`"
         elif re.fullmatch(rf"[\w.*-]+\.(?:{'|'.join(EXTENSIONS)})", code):
-            if not path_exists(code, path) and code not in names and code not in fenced and "*" not in code:
+            if not path_exists(code, path) and not re.match(r"[A-Z]+\.", code) and code not in names and code not in fenced and "*" not in code:
                 yield line, f"no file `{code}`"
         elif re.fullmatch(r"[^\W\d][\w']*(?:(?:::|\.)[^\W\d][\w']*)*(?:\(\))?", code):
             for word in re.findall(r"[^\W\d][\w']*", code):

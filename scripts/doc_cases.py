@@ -8,7 +8,8 @@ cases stand at the end of crates/vx_cases/stdin between two lines that begin wit
 at the end of crates/vx_cases/stdout. This script replaces these and leaves all else alone. Run it after scripts/make-cases.py too, which
 writes both files anew.
 
-Input files are those of examples/film, and those that earlier commands of the same page make by `> NAME`. Such output is kept and not
+Input files are those of examples/film, those that earlier commands of the same page make by `> NAME`, and those that a block
+`sh not-run: needs TOOLS` makes of the former with no tools but cat, head, tail and printf. Output that goes to a file is kept and not
 compared; a later `show` or `verify` of it is. A command isn't a case if its page leaves lines out (`..`), because the expected output
 may not come from the program. These are printed, with the reason; scripts/guide.sh runs them too.
 
@@ -17,10 +18,13 @@ With --check nothing is written; the status is 1 if the cases aren't those of th
 import argparse
 import pathlib
 import re
+import shutil
+import subprocess
 import sys
+import tempfile
 
 from case_lines import Expected, spelled
-from doc_blocks import BadPage, page_commands
+from doc_blocks import BadPage, blocks, commands
 
 ROOT = pathlib.Path(__file__).resolve().parent.parent
 CASES = ROOT / "crates/vx_cases"
@@ -37,6 +41,10 @@ STATUSES = (
 )
 # Commands whose output may look like the line of a broken rule.
 ABOUT = ("--explain", "--help", "--version")
+
+
+# Tools that make input files, where a block of a page says that it needs no others.
+TOOLS = {"cat", "head", "tail", "printf", "and"}
 
 
 class NoCase(Exception):
@@ -68,6 +76,24 @@ def expected_of(command):
     return Expected(status, err, "".join(f"{line}\n" for line in shown).encode())
 
 
+def made_by(block, files):
+    """The files that a block of shell makes of these, or nothing if it needs other tools."""
+    tools = re.sub(r",", " ", block.reason or "").split()
+    if tools[:1] != ["needs"] or not set(tools[1:]) <= TOOLS:
+        return {}
+    with tempfile.TemporaryDirectory() as folder:
+        folder = pathlib.Path(folder)
+        for path in FILM.glob("*.266"):
+            shutil.copy(path, folder / path.name)
+        for name, made in files.items():
+            (folder / name).write_bytes(made)
+        before = {path.name for path in folder.iterdir()}
+        done = subprocess.run(["bash", "-e", "-o", "pipefail", "-c", block.text], cwd=folder, capture_output=True, text=True)
+        if done.returncode:
+            raise BadPage(f"{block.page}:{block.line}: {done.stderr.strip() or 'it fails'}")
+        return {path.name: path.read_bytes() for path in folder.iterdir() if path.name not in before}
+
+
 class Block:
     """The lines of the cases, and their expected ones."""
 
@@ -75,26 +101,30 @@ class Block:
         self.given, self.made, self.left, self.named = [], [], [], {}
 
     def page(self, path):
-        """Takes the commands of a page."""
-        commands, kept = page_commands(path), set()
-        name = path.relative_to(ROOT)
-        commands = [command for command in commands if command.program == "goosequince"]
-        if commands:
-            self.given.append(f"# {name}")
-        for command in commands:
-            try:
-                self.command(command, kept)
-            except NoCase as reason:
-                self.left.append(f"{name}:{command.line}: not a case, {reason}: {command.text}")
+        """Takes the commands of a page, in the order of its blocks."""
+        kept, files, name, begun = set(), {}, path.relative_to(ROOT), False
+        for one in blocks(path):
+            if one.kind == "sh":
+                files.update(made_by(one, files))
+            for command in commands(one) if one.kind == "console" else []:
+                if command.program != "goosequince":
+                    continue
+                if not begun:
+                    self.given.append(f"# {name}")
+                    begun = True
+                try:
+                    self.command(command, kept, files)
+                except NoCase as reason:
+                    self.left.append(f"{name}:{command.line}: not a case, {reason}: {command.text}")
 
-    def command(self, command, kept):
-        """Takes a command of a page, in which these names are kept output."""
+    def command(self, command, kept, files):
+        """Takes a command of a page, in which these names are kept output, and those are files that were made."""
         expected, settings = expected_of(command), []
         for k, file in enumerate(files_of(command.words) if expected.status != 2 else []):
             if file in kept:
                 continue
-            if (FILM / file).is_file():
-                self.name(file)
+            if file in files or (FILM / file).is_file():
+                self.name(file, files.get(file) or (FILM / file).read_bytes())
             elif expected.status == 3:
                 settings.append(f"closed {k}")
             else:
@@ -106,11 +136,11 @@ class Block:
         self.given += [*settings, f"case {' '.join(command.words)}".strip()]
         self.made.append(expected.line(command.output is not None))
 
-    def name(self, file):
-        """Names the bytes of a file of examples/film."""
-        if file not in self.named:
-            self.named[file] = True
-            self.given.append(f"stream {file} {spelled((FILM / file).read_bytes())}")
+    def name(self, name, stream):
+        """Names bytes, unless they have this name."""
+        if self.named.get(name) != stream:
+            self.named[name] = stream
+            self.given.append(f"stream {name} {spelled(stream)}")
 
 
 def pages():
