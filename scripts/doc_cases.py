@@ -8,9 +8,9 @@ cases stand at the end of crates/vx_cases/stdin between two lines that begin wit
 at the end of crates/vx_cases/stdout. This script replaces these and leaves all else alone. Run it after scripts/make-cases.py too, which
 writes both files anew.
 
-Input files are those of examples/film, those that earlier commands of the same page make by `> NAME`, and those that a block
-`sh not-run: needs TOOLS` makes of the former with no tools but cat, head, tail and printf. Output that goes to a file is kept and not
-compared; a later `show` or `verify` of it is. A command isn't a case if its page leaves lines out (`..`), because the expected output
+Input files are those of examples/film, those that earlier commands of the same page make by `> NAME`, and those that lines of its sh
+blocks make from files of examples/film by cat, head, tail and printf only. Output that goes to a file is kept and not compared; a later
+`show` or `verify` of it is. A command isn't a case if its page leaves lines out (`..`), because the expected output
 may not come from the program. These are printed, with the reason; scripts/guide.sh runs them too.
 
 With --check nothing is written; the status is 1 if the cases aren't those of the pages.
@@ -43,8 +43,8 @@ STATUSES = (
 ABOUT = ("--explain", "--help", "--version")
 
 
-# Tools that make input files, where a block of a page says that it needs no others.
-TOOLS = {"cat", "head", "tail", "printf", "and"}
+# Tools that make input files.
+TOOLS = {"cat", "head", "tail", "printf"}
 
 
 class NoCase(Exception):
@@ -77,10 +77,7 @@ def expected_of(command):
 
 
 def made_by(block, files):
-    """The files that a block of shell makes of these, or nothing if it needs other tools."""
-    tools = re.sub(r",", " ", block.reason or "").split()
-    if tools[:1] != ["needs"] or not set(tools[1:]) <= TOOLS:
-        return {}
+    """The files that those lines of a block of shell make of these which need no other tools."""
     with tempfile.TemporaryDirectory() as folder:
         folder = pathlib.Path(folder)
         for path in FILM.glob("*.266"):
@@ -88,9 +85,9 @@ def made_by(block, files):
         for name, made in files.items():
             (folder / name).write_bytes(made)
         before = {path.name for path in folder.iterdir()}
-        done = subprocess.run(["bash", "-e", "-o", "pipefail", "-c", block.text], cwd=folder, capture_output=True, text=True)
-        if done.returncode:
-            raise BadPage(f"{block.page}:{block.line}: {done.stderr.strip() or 'it fails'}")
+        for line in block.lines:
+            if set(re.findall(r"(?:^|[(;|&])\s*([\w./-]+)", line)) <= TOOLS:
+                subprocess.run(["bash", "-e", "-o", "pipefail", "-c", line], cwd=folder, capture_output=True)
         return {path.name: path.read_bytes() for path in folder.iterdir() if path.name not in before}
 
 
