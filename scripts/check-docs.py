@@ -27,8 +27,9 @@ import sys
 import tempfile
 from concurrent.futures import ThreadPoolExecutor
 
+import believed
 import page_numbers
-from doc_blocks import BadPage, blocks, commands, page_commands
+from doc_blocks import BadPage, blocks, commands
 
 ROOT = pathlib.Path(__file__).resolve().parent.parent
 LONGEST, MEAN, LINES_OF_README = 45, 25, 140
@@ -250,9 +251,10 @@ def words_of(path):
 
 
 @functools.cache
-def words_of_proofs():
-    """The words of all proofs."""
-    return {word for path in (ROOT / "crates").glob("*/proofs/**/*.antt") for word in words_of(path)}
+def in_proofs(word):
+    """The word stands in a proof."""
+    folders = [str(path) for path in (ROOT / "crates").glob("*/proofs")]
+    return not subprocess.run(["grep", "-rqwF", "--", word, *folders], stderr=subprocess.DEVNULL).returncode
 
 
 @functools.cache
@@ -281,6 +283,8 @@ def path_exists(name, page):
     name = name.rstrip("/").removeprefix("./")
     if name in paths or f"{name}.antt" in paths or (page.parent / name).exists() or (ROOT / name).exists():
         return True
+    if "*" not in name and not re.search(r"\b[A-Z][A-Z_0-9]*\b", name):
+        return False
     parts = [re.escape(part).replace(r"\*", "[^/]*") for part in name.split("/")]
     parts = [".*" if part == "[^/]*[^/]*" else re.sub(r"\b[A-Z][A-Z_0-9]*\b(?=$|\\\.)", "[^/]*", part) for part in parts]
     form = re.compile("/".join(parts))
@@ -307,7 +311,7 @@ def name_faults(path, text):
                 yield line, f"no file `{code}`"
         elif re.fullmatch(r"[^\W\d][\w']*(?:(?:::|\.)[^\W\d][\w']*)*(?:\(\))?", code):
             for word in re.findall(r"[^\W\d][\w']*", code):
-                if word not in words and word not in names and not re.fullmatch(r"[A-Z][A-Z_]*", word) and word not in fenced and word not in words_of_proofs():
+                if word not in words and word not in names and not re.fullmatch(r"[A-Z][A-Z_]*", word) and word not in fenced and not in_proofs(word):
                     yield line, f"no name `{code}`"
                     break
 
@@ -419,14 +423,24 @@ def sentence_faults(path, text):
         yield 1, f"a mean sentence of {sum(counted) / len(counted):.1f} words, and at most {MEAN} are allowed"
 
 
+@functools.cache
+def patterns(forms):
+    """The forms of a list, compiled: all at once, and each with what to write instead."""
+    all_forms = [(rf"(?<![\w`/.-])(?:{form})(?![\w`])", re.I if not form.startswith(("issues", r"\.\.")) else 0, other) for form, other in forms]
+    any_form = re.compile("|".join(f"(?i:{form})" for form, _, _ in all_forms))
+    return any_form, [(re.compile(form, flags), other) for form, flags, other in all_forms]
+
+
 def banned_in(text, forms):
     """The words of a list in a text: the place of each, the word, and what to write instead."""
+    any_form, each = patterns(forms)
+    if not any_form.search(text):
+        return
     free = [m.span() for m in ALLOWED.finditer(text)]
-    for form, other in forms:
-        for m in re.finditer(rf"(?<![\w`/.-])(?:{form})(?![\w`])", text, re.I if not form.startswith(("issues", r"\.\.")) else 0):
-            if m[0] == "US" or any(begin <= m.start() and m.end() <= end for begin, end in free):
-                continue
-            yield m.start(), m[0], other
+    for form, other in each:
+        for m in form.finditer(text):
+            if m[0] != "US" and not any(begin <= m.start() and m.end() <= end for begin, end in free):
+                yield m.start(), m[0], other
 
 
 def style_faults(path, text):
@@ -459,13 +473,20 @@ def makers(report):
     """Checks what scripts make."""
 
     def ask(script):
-        return subprocess.run([ROOT / script, "--check"], capture_output=True, text=True, cwd=ROOT)
+        done = subprocess.run([ROOT / script, "--check"], capture_output=True, text=True, cwd=ROOT)
+        return (done.stderr or done.stdout).strip().split("\n")[-1] if done.returncode else ""
+
+    def ask_believed(script):
+        # In this process, which needs its numbers too.
+        wrong = believed.differing(believed.pages())
+        return f"{', '.join(path.name for path in wrong)} differ: run {script}" if wrong else ""
 
     there = [(script, made) for script, made in MADE if (ROOT / script).exists()]
     with ThreadPoolExecutor() as pool:
-        for (script, made), done in zip(there, pool.map(ask, (script for script, _ in there))):
-            said = (done.stderr or done.stdout).strip().split("\n")[-1]
-            report.take(script, [f"{script} --check: {made}: {said}"] if done.returncode else [])
+        asked = [pool.submit(ask_believed if script.endswith("believed.py") else ask, script) for script, _ in there]
+        for (script, made), answer in zip(there, asked):
+            said = answer.result()
+            report.take(script, [f"{script} --check: {made}: {said}"] if said else [])
     for script, made in MADE:
         if not (ROOT / script).exists():
             report.skip(made, f"there is no {script}")
