@@ -9,7 +9,7 @@ It checks that
 - links lead to files and anchors that are there;
 - files, scripts, functions and definitions in backticks exist;
 - numbers between marks are right (scripts/page_numbers.py);
-- code blocks are of the kinds that CONTRIBUTING names, and C blocks compile;
+- code blocks are of the kinds that doc_blocks.py names, C blocks compile, and shown texts of `--explain` and `--help` are right;
 - each page says at its beginning who it is for, and has at most its number of words;
 - no sentence has more than 45 words, and those of a page at most 25 on average;
 - words that the style rules exclude don't stand on a page, nor in the comments of the crates of MOVED_CRATES.
@@ -29,7 +29,7 @@ from concurrent.futures import ThreadPoolExecutor
 
 import believed
 import page_numbers
-from doc_blocks import BadPage, blocks, commands
+from doc_blocks import BadPage, agrees, blocks, commands
 
 ROOT = pathlib.Path(__file__).resolve().parent.parent
 LONGEST, MEAN, LINES_OF_README = 45, 25, 140
@@ -393,6 +393,30 @@ def c_faults(path, text):
         before += block.text
 
 
+@functools.cache
+def printed():
+    """What `--explain WORD`, `--help` and `--version` print, by the command, as the texts of crates/ have it."""
+    explained = re.search(r'\*b"(.*)"', (ROOT / "crates/vx_explain/src/text.rt").read_text(), re.S)[1]
+    found = {f"--explain {part.split()[0]}": part for part in explained.split("|")}
+    about = (ROOT / "crates/vx_run/src/about.rt").read_text()
+    texts = re.findall(r'fn (help|version)\(\).*?b"(.*?)"\n', about, re.S)
+    plain = {f"--{name}": text.replace("\\n", "\n").replace('\\"', '"').replace("\\\\", "\\") for name, text in texts}
+    return {words: text.rstrip("\n").split("\n") for words, text in {**found, **plain}.items()}
+
+
+def text_faults(path, text):
+    """Shown texts of `--explain`, `--help` and `--version` that the program doesn't print."""
+    try:
+        found = [command for block in blocks(path) if block.kind == "console" for command in commands(block)]
+    except BadPage:
+        return
+    for command in found:
+        shown = "\n".join(command.shown).rstrip().split("\n")
+        words = " ".join(command.words)
+        if command.program == "goosequince" and words in printed() and not command.output and not agrees(shown, printed()[words]):
+            yield command.line, f"`goosequince {words}` prints: {' / '.join(printed()[words])[:160]} .."
+
+
 def word_count(text):
     """The words of a page: what `wc -w` counts, without the marks of numbers, and without the bars and dashes of tables."""
     return len(re.findall(r"\S*\w\S*", re.sub(r"<!-- from: .*? -->|<!-- / -->", "", text)))
@@ -460,6 +484,7 @@ CHECKS = {
     "numbers": mark_faults,
     "blocks": block_faults,
     "C": c_faults,
+    "texts": text_faults,
     "size": size_faults,
     "sentences": sentence_faults,
     "style": style_faults,
