@@ -1,7 +1,11 @@
-//! The pictures of a stream, one at a time: units are taken in order, and each picture is handed on with its last slice.
+//! Reads the pictures of a stream one at a time: each picture is returned with its last slice.
 //!
-//! An assembler keeps what later units are read under: the sets in force, the picture that was begun, and what the counts of
-//! later pictures come from. The relation `Stands` ties it to what the units before were read as.
+//! A [`Feed`] reads a source, and a [`MemoryFeed`] units in memory. Both pass units in order to an
+//! [`Assembler`]. An assembler keeps what later units are read under: the sets in force, the picture that was
+//! begun, and what the picture order counts of later pictures need.
+//!
+//! `specs/Feed.antt` and `specs/Memory.antt` relate these types to the stream that they have read, and
+//! `specs/Held.antt` an assembler to the units that it has taken.
 #![tactic(auto)]
 
 mod assembler;

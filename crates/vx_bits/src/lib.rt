@@ -1,9 +1,12 @@
 //! Bits, Exp-Golomb codes and field lists of H.266: the base of every reader and writer of its syntax.
 //!
-//! A [`BitReader`] takes codes from the front of bytes, and a [`BitWriter`] appends them.
-//! Both are exact: a call answers a number exactly where the bits begin with its code.
-//! [`Fields`] is the value of a syntax structure, and [`CopyList`] and [`LentList`] carry all list types.
-//! [`Refusal`] names the rule that a stream breaks, by a number of [`rules`].
+//! A [`BitReader`] takes codes from the start of bytes, and a [`BitWriter`] appends them. A read succeeds
+//! exactly if the bits begin with a code of the wanted kind, and then returns its number. [`Fields`] is the
+//! value of a syntax structure; [`CopyList`] and [`LentList`] carry all list types. [`Refusal`] names the
+//! rule that a stream breaks, by a number of [`rules`].
+//!
+//! The codes are defined in `specs/Codes.antt` (H.266 7.2, 9.2), and places in the bits in
+//! `specs/Place.antt`.
 #![tactic(auto)]
 
 mod kept;

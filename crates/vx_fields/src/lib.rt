@@ -1,9 +1,10 @@
-//! The fields of H.266's syntax structures by their names, each with its number.
+//! The fields of H.266's syntax structures by name, each with its number.
 //!
-//! A field is `vx_fields::sps::sps_alf_enabled_flag`, under the full name that H.266 gives it, in lower case as there.
-//! The number stands for the field in items, in scopes and in refusals: docs/FIELDS.md has them in order, and [`name_of`]
-//! gives the name of a number as text. Names that tables give to numbers of their own are in [`names`], in upper case. No
-//! two constants have one number, and each number is below 1024, the size of a scope.
+//! A field is `vx_fields::sps::sps_alf_enabled_flag`: the full name that H.266 gives it, in lower case as
+//! there. Items, scopes and refusals identify a field by its number. docs/generated/FIELDS.md lists the
+//! numbers in order, and [`name_of`] returns the name of a number as text. [`names`] holds the names that
+//! tables give to numbers of their own, in upper case. No two constants have the same number, and each number
+//! is below 1024, the size of a scope.
 #![tactic(auto)]
 #![allow(non_upper_case_globals)]
 

@@ -1,4 +1,11 @@
-//! Which regions fit together into one frame, and the tile lines of that frame (H.266 6.3.1, 6.5.1).
+//! Placement of regions in one frame, and the tile lines of that frame (H.266 6.3.1, 6.5.1).
+//!
+//! [`fit_regions`] checks that [`Placed`] regions fill a frame on the grid of CTUs, and in an allowed order;
+//! if they don't, it returns a [`FitFault`]. [`fit_lines`] computes the tile lines of the frame from those of
+//! its regions.
+//!
+//! `specs/Placing.antt` and `specs/FitFaults.antt` define placements and their faults, and
+//! `specs/FrameLines.antt` the lines of the frame.
 #![tactic(auto)]
 
 mod laws;

@@ -1,4 +1,12 @@
-//! Where bytes come from and where they go: sources and sinks, each with a count of its faults.
+//! Byte sources and byte sinks, each with a count of its faults.
+//!
+//! [`Source`] and [`Sink`] are the traits that all readers and writers of streams use. [`MemorySource`],
+//! [`MemorySink`] and [`GrowSink`] work in memory, and contracts know their bytes. [`ReaderSource`],
+//! [`ClosedSource`] and [`WriterSink`] are the edge to the system. [`write_all`] writes a whole slice, and
+//! [`read_at`] reads from one source of a list.
+//!
+//! The contracts' definitions stand in `specs/`: `Faults` (fault counts), `Memory`, `Written`, `Listed`,
+//! `Outside`.
 #![tactic(auto)]
 
 mod list;

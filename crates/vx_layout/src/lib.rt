@@ -1,4 +1,13 @@
 //! Tiles, slices and subpictures of a picture, in CTUs (H.266 6.5.1).
+//!
+//! [`Numbers`] holds the tile bounds, slices and subpictures that the parameter sets signal. [`Layout::new`]
+//! checks them, and returns a [`LayoutError`] with the lowest fault if there is one. A [`Layout`] gives the
+//! slices of each subpicture by address, and the numbers of a subpicture as a layout of its own.
+//! [`tile_bounds`] computes tile bounds from the signalled sizes.
+//!
+//! `specs/Layouts.antt` defines layouts, `specs/Faults.antt` the rules on them, `specs/Borders.antt` and
+//! `specs/Bounds.antt` tile bounds, `specs/Frames.antt` and `specs/Regions.antt` the layouts of frames and
+//! regions.
 #![tactic(auto)]
 
 mod bounds;

@@ -1,4 +1,12 @@
-//! The picture header of H.266 (clause 7.3.2.8).
+//! The picture header of H.266 (clauses 7.3.2.7 and 7.3.2.8).
+//!
+//! [`read_ph`] reads the header at the start of bits, [`read_ph_unit`] that of a picture header unit, and
+//! [`write_header`] and [`write_ph`] write them. [`read_pps_id`] reads only up to the id of the PPS, which
+//! the rest of the header needs. [`PictureHeader`] holds what slices and rewriting need; [`PhShape`]
+//! describes a rewritten header.
+//!
+//! `specs/Header.antt` defines the header's bits, `specs/InForce.antt` the numbers in force for it, and
+//! `specs/Reshaped.antt` a rewritten one.
 #![tactic(auto)]
 
 mod header;

@@ -1,7 +1,12 @@
 //! The pictures of a stream of NAL units (H.266 7.4.2.4, 8.3.1).
 //!
-//! What the pictures are is defined in the folder `specs`: what each unit is read as behind those before it, the pictures that
-//! come of that, and the rule that ends them. The laws say what follows of it, whatever sets and headers are read as.
+//! [`Picture`] is one picture with its sets, header and slices, and [`DecodingInput`] what the decoding of a
+//! slice depends on. Mergers and extractors compare pictures by [`Kind`], [`same_input`] and [`SetsKey`].
+//! [`StructureFields`] holds the fields of a unit's structure for display.
+//!
+//! `specs/Streams.antt` and `specs/Units.antt` define how units are read after those before them and which
+//! pictures follow, `specs/Rules.antt` the rules on them, and `specs/Inputs.antt` decoding inputs. The laws
+//! hold whatever sets and headers are read as.
 #![tactic(auto)]
 
 mod accepted;

@@ -1,9 +1,13 @@
 //! The picture parameter set and its slice list (H.266 7.3.2.5, 6.5.1).
 //!
-//! [`read_pps`] reads a set, [`write_pps`] writes it, [`keep_pps`] gives its kept items, and [`Pps`] has what headers,
-//! layouts and rewriting ask of it. [`reshape_pps`] gives the set that is sent for a region or a frame, which [`PpsShape`]
-//! tells. [`Tiles`] names tiles by their index. The laws say of which groups the slices of a picture are that a slice list
-//! can name: slices of whole tiles, and the slices of one tile.
+//! [`read_pps`] reads a set, [`write_pps`] writes it, and [`keep_pps`] returns its kept items. [`Pps`] holds
+//! what headers, layouts and rewriting need. [`reshape_pps`] makes the set of a region or a frame, as a
+//! [`PpsShape`] describes it. [`Tiles`] finds tiles by index, and [`Partition`] holds tile bounds and slices.
+//! The laws state which groups the slices of a picture form so that a slice list can describe them: slices of
+//! whole tiles, and slices within one tile.
+//!
+//! `specs/Pps.antt` defines a set, `specs/Slices.antt` and `specs/Tiles.antt` its slice list, and
+//! `specs/Reshaped.antt` a rewritten set.
 #![tactic(auto)]
 #![allow(non_upper_case_globals)]
 

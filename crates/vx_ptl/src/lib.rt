@@ -1,7 +1,10 @@
-//! Profile, tier and level, DPB parameters and timing of H.266, and the numbers of a VPS that are read.
+//! Profile, tier and level, DPB parameters and timing of H.266, and the fields of a VPS that are read.
 //!
-//! Each structure is a table ([`PTL`], [`DPB`] ..), a walk over it and one call that reads. The parameter sets that hold
-//! these structures take the tables as parts of their own, or build on the walks ([`code_ptl`], [`code_dpb`] ..).
+//! Each structure has a table ([`PTL`], [`DPB`] ..), a walk over it, and one function that reads it.
+//! Parameter sets that contain these structures include the tables as parts of their own, or build on the
+//! walks ([`code_ptl`], [`code_dpb`] ..).
+//!
+//! `specs/Structures.antt` defines the forms of the structures, and `specs/Spelling.antt` their bits.
 #![tactic(auto)]
 
 mod laws;

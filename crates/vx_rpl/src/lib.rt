@@ -1,4 +1,12 @@
 //! Reference picture lists of H.266: their structures, the lists of a header, and prediction weights.
+//!
+//! [`read_struct`] and [`write_struct`] code a list structure (7.3.10), [`read_lists`] and [`write_lists`]
+//! the two lists of a header (7.3.9), and [`read_weights`] and [`write_weights`] the weights (7.3.8).
+//! [`resolve_lists`] returns the [`RefLists`] to which the items of a header lead. [`StructureList`] holds
+//! the structures of an SPS.
+//!
+//! `specs/Lists.antt`, `specs/HeaderLists.antt` and `specs/Resolved.antt` define structures, lists of a
+//! header, and the lists that follow from them.
 #![tactic(auto)]
 
 mod entry;

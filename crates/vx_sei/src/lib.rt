@@ -1,7 +1,9 @@
 //! SEI messages that describe how pictures are to be shown, read and written (H.266 7.3.2.9, 7.3.6).
 //!
-//! An SEI RBSP is one or more messages and the byte 80. [`read_sei`] gives those of its messages that are carried
-//! through, and [`write_sei`] the RBSP of messages.
+//! An SEI RBSP is one or more messages and the byte 80. [`read_sei`] returns those of its messages that are
+//! copied to the output, and [`write_sei`] the RBSP of messages.
+//!
+//! `specs/Sei.antt` defines messages, their RBSP, and which of them are copied.
 #![tactic(auto)]
 
 mod laws;

@@ -1,4 +1,12 @@
 //! The slice header of H.266 (clause 7.3.7).
+//!
+//! [`read_sh`] reads a header under the sets and the picture header in force, and [`write_sh`] writes it.
+//! [`SliceHeader`] holds what layouts, pictures and rewriting need, and [`SliceNumbers`] the sets and picture
+//! header under which it is read. [`SliceSender`] writes the headers of a rewritten picture, as a [`ShShape`]
+//! describes them.
+//!
+//! `specs/Slice.antt` and `specs/Whole.antt` define the header's bits, `specs/InForce.antt` the numbers in
+//! force, and `specs/Reshaped.antt` a rewritten header.
 #![tactic(auto)]
 
 mod context;

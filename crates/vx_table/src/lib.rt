@@ -1,14 +1,16 @@
-//! Syntax tables of H.266 as data, and one walk over them in both directions.
+//! Syntax tables of H.266 as data, and one walk over them that reads and writes.
 //!
-//! A table is a constant array of [`Row`]s, written by [`table!`] in the look of the standard's own tables.
-//! [`code_table`] walks over it with any [`Coder`]; [`read_table`] is the walk with a bit reader, which appends
-//! items, [`write_table`] the walk with a bit writer, which takes them, and [`keep_table`] sifts them to those of
-//! kept fields. [`Scope`] has the numbers that conditions, widths and ranges read. [`depends_only_on`] and
-//! [`keeps_only`] test of a table which of these numbers its fields depend on, and which fields it keeps.
-//! [`Rewriter`] is the coder that puts a structure together of the items of some fields and those of the others, and
-//! [`Sender`] the one that writes it in the same walk. [`rows!`] writes a table by type ([`Rows`]), and [`code_section`] walks over it in a structure,
-//! for walks that are made again and again.
-//! docs/TABLES.md says how a table is read and how one is added.
+//! A table is a constant array of [`Row`]s, written by [`table!`] in the form of the standard's own tables.
+//! [`code_table`] walks over it with any [`Coder`]. [`read_table`] walks with a bit reader and appends items,
+//! [`write_table`] walks with a bit writer and takes items, and [`keep_table`] keeps only the items of kept
+//! fields. [`Scope`] holds the numbers that conditions, widths and ranges use. [`Rewriter`] makes a new
+//! structure from the items of some fields and those of the others; [`Sender`] writes that structure in the
+//! same walk. [`rows!`] writes a table as a type ([`Rows`]), and [`code_section`] walks over it, for walks
+//! that are made very often. [`depends_only_on`] and [`keeps_only`] test which numbers the fields of a table
+//! depend on, and which fields it keeps.
+//!
+//! `specs/Spelling.antt` defines the bits of a table's values, `specs/Forms.antt` what its rows mean, and
+//! `specs/Kept.antt` what is kept. docs/TABLES.md explains how to read a table and how to add one.
 #![tactic(auto)]
 #![allow(non_upper_case_globals)]
 
