@@ -7,7 +7,7 @@ ghost use Rattle.vx_io.specs.Listed.{bytes_at, faults_at};
 
 use crate::read::{Source, SourceFailed};
 
-/// Reads from a source behind its vtable, as [`Source::read`] does.
+/// Reads from a source through its vtable, as [`Source::read`] does.
 fn read_from(source: &mut dyn Source, into: &mut [u8]) -> Result<usize, SourceFailed>
     ensures bound { ReadsAtMost result into.new }
     ensures bytes { ReadConsumes (bytes_left source.old) (bytes_left source.new) result into.new }
@@ -25,7 +25,7 @@ pub fn read_box(source: &mut Box<dyn Source>, into: &mut [u8]) -> Result<usize, 
     read_from(&mut **source, into)
 }
 
-/// Reads from the source at `k`, as [`Source::read`] does. The other sources stay as they are.
+/// Reads from `sources[k]`, as [`Source::read`] does, and leaves the other sources unchanged.
 pub fn read_at(
     sources: &mut Vec<Box<dyn Source>>,
     k: usize,

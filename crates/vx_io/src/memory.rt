@@ -1,4 +1,4 @@
-//! Sources and sinks in memory, whose every call is known beforehand.
+//! Sources and sinks in memory, whose calls all follow a plan.
 
 mod calls;
 mod grow;

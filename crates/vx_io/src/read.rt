@@ -1,4 +1,4 @@
-//! What a source is.
+//! The trait of byte sources.
 ghost use Rattle.std.specs.Prelude.{ℕ, List, Option, Some, codes};
 ghost use Rattle.std.specs.Io.{ReadsAtMost};
 ghost use Rattle.std.specs.Io.KnownBytes.{ReadConsumes};
@@ -7,7 +7,7 @@ ghost use Rattle.vx_io.specs.Faults.{CountsFault};
 use std::error::Error;
 use std::fmt;
 
-/// A read failed. The source's count of faults tells of it.
+/// A read failed. The source's count of faults records it.
 #[derive(Clone, Copy, PartialEq, Eq, Debug)]
 pub struct SourceFailed;
 
@@ -21,18 +21,22 @@ impl fmt::Display for SourceFailed {
 
 impl Error for SourceFailed {}
 
-/// What gives bytes.
+/// A reader of bytes with a count of its failed reads.
 pub trait Source: Drop {
-    // The bytes that the source has left, where it tells them.
+    // The bytes that the source has left, if contracts know them.
     ghost bytes_left: { Self → Option (List ℕ) };
 
     // A count that rises with each failed read. It stops at 2^64 - 1.
     ghost read_faults: { Self → ℕ };
 
-    /// Reads some bytes to the front of `into`, and answers how many they are. What stands behind
-    /// them in `into`, and what stands there after a failed read, is left open.
+    /// Reads some bytes to the start of `into`, and returns their number.
     ///
-    /// With room for a byte, no byte comes exactly at the end. A failed read takes nothing.
+    /// If `into` has room for a byte, the number is 0 exactly at the end of the source. The rest of `into` is
+    /// unspecified.
+    ///
+    /// # Errors
+    ///
+    /// `SourceFailed` if the read failed. It takes nothing from the source; `into` is unspecified.
     fn read(&mut self, into: &mut [u8]) -> Result<usize, SourceFailed>
         ensures bound { ReadsAtMost result into.new }
         ensures bytes { ReadConsumes (bytes_left self.old) (bytes_left self.new) result into.new }

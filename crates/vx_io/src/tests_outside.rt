@@ -1,4 +1,4 @@
-//! Real files, of which no clause can speak, and each source and sink of the outside once.
+//! Tests with real files, whose bytes no contract knows, and one test of each source and sink of the system.
 use crate::{
     ClosedSource, FileSource, ReaderSource, Sink, SinkFailed, Source, SourceFailed, WriterSink,
     write_all,
@@ -8,7 +8,7 @@ use std::io::{ErrorKind, Read, Write};
 use std::test::Fail;
 use std::{env, fs, io, process};
 
-/// A reader and a writer of one byte a call, every other call of which fails, the first one too.
+/// A reader and writer that moves one byte a call. Calls fail and succeed in turn, and the first one fails.
 #[derive(Drop)]
 struct Faltering {
     is_well: bool,
@@ -38,7 +38,8 @@ impl Write for Faltering {
     }
 }
 
-// No contract says when a reader or a writer fails, so none says that each is asked once, and that its failure is told.
+// No contract says when a reader or a writer fails. So no contract says that each is called once and that its
+// failure is reported.
 #[test]
 fn each_failed_read_is_told(rt: HostRuntime) {
     let mut source = ReaderSource::new(Faltering { is_well: true });
@@ -85,7 +86,7 @@ fn files(rt: HostRuntime) -> Result<(), Fail> {
         assert_eq!(rt; given, Some(want.as_bytes()));
     }
 
-    // A file that was opened to read can't be written, nor one that was opened to write be read.
+    // A file opened for reading can't be written, and one opened for writing can't be read.
     let mut sink = WriterSink::new(File::open(&rt, path.as_path())?);
     assert_eq!(rt; sink.write(b"abc"), Err(SinkFailed));
     let mut source = FileSource::new(File::create(&rt, path.as_path())?);

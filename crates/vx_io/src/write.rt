@@ -1,4 +1,4 @@
-//! What a sink is, and how a whole piece is written to one.
+//! The trait of byte sinks, and how a whole piece is written to one.
 ghost use Rattle.std.specs.Prelude.{◌≡◌, ◌<◌, ℕ, List, Option, Some, codes, length, IfOk, IsOk, OnOk, OnErr};
 ghost use Rattle.std.specs.Io.{WritesAtMost};
 ghost use Rattle.std.specs.Io.KnownBytes.{Appends, WriteAppends};
@@ -8,7 +8,7 @@ ghost use Rattle.vx_io.specs.Written.{AppendsFront};
 use std::error::Error;
 use std::fmt;
 
-/// A write failed. The sink's count of faults tells of it.
+/// A write failed. The sink's count of faults records it.
 #[derive(Clone, Copy, PartialEq, Eq, Debug)]
 pub struct SinkFailed;
 
@@ -22,16 +22,19 @@ impl fmt::Display for SinkFailed {
 
 impl Error for SinkFailed {}
 
-/// What takes bytes.
+/// A writer of bytes with a count of its failed writes.
 pub trait Sink {
-    // The bytes that the sink has taken, where it tells them.
+    // The bytes that the sink has taken, if contracts know them.
     ghost bytes_taken: { Self → Option (List ℕ) };
 
     // A count that rises with each failed write. It stops at 2^64 - 1.
     ghost write_faults: { Self → ℕ };
 
-    /// Takes some bytes from the front of `piece`, and answers how many they are: at least one,
-    /// unless `piece` is empty. A failed write takes nothing.
+    /// Writes a prefix of `piece`, and returns its length: at least 1, unless `piece` is empty.
+    ///
+    /// # Errors
+    ///
+    /// `SinkFailed` if the write failed. It takes nothing.
     fn write(&mut self, piece: &[u8]) -> Result<usize, SinkFailed>
         ensures bound { WritesAtMost result piece.now }
         ensures bytes { WriteAppends (bytes_taken self.old) (bytes_taken self.new) result piece.now }
@@ -39,13 +42,17 @@ pub trait Sink {
         ensures faults { CountsFault (write_faults self.old) (write_faults self.new) result };
 }
 
-/// Writes all of `piece`. It takes no memory.
+/// Writes all of `piece` to `out`. Takes no memory.
+///
+/// # Errors
+///
+/// `SinkFailed` if a write failed. A proper prefix of `piece` is then written, which may be empty.
 pub fn write_all<K: Sink>(out: &mut K, piece: &[u8]) -> Result<(), SinkFailed>
     ensures ok { OnOk result (Appends (K.bytes_taken out.old) (K.bytes_taken out.new) piece.now) }
-    // A failed write leaves a front of the piece written, and not all of it.
+    // After a failed write, a prefix of the piece is written, and not all of it.
     ensures err { OnErr result (AppendsFront (K.bytes_taken out.old) (K.bytes_taken out.new) piece.now) }
     ensures faults { CountsFault (K.write_faults out.old) (K.write_faults out.new) result }
-    // Of nothing, nothing is asked of the sink.
+    // For an empty piece the sink isn't called.
     ensures none { length piece.now ≡ 0 → (out.new ≡ out.old) × IsOk result }
 {
     let mut rest = piece;

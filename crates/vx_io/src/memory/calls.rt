@@ -1,4 +1,4 @@
-//! How the calls of a memory source or sink go.
+//! The plan of a memory source's or sink's calls.
 ghost use Rattle.std.specs.Prelude.{◌≡◌, ◌↔◌, IfSome, IfNone, IsNone};
 ghost use Rattle.std.specs.List.{Contains};
 ghost use Rattle.vx_io.specs.Faults.{Rose};
@@ -6,10 +6,10 @@ ghost use Rattle.vx_io.specs.Memory.{fresh_plan, after_call, after_fault, moved_
 
 use std::marker::Model;
 
-/// The calls that were made, and how each goes.
+/// The number of calls made, and the plan that says how each call goes.
 ///
-/// It is seen as the bounds and the failing calls, how many calls were made, and how many of them
-/// failed.
+/// *Model:* the piece lengths, the numbers of failing calls, the number of calls made, and the number of
+/// calls that failed.
 #[derive(Drop)]
 pub(crate) struct Calls {
     pieces: Vec<u32>,
@@ -32,7 +32,7 @@ impl Model for Calls {
 }
 
 impl Calls {
-    /// No call yet.
+    /// Returns a plan of which no call has been made.
     pub(crate) fn new(pieces: Vec<u32>, failing: Vec<u64>) -> Calls
         ensures { result ≡ fresh_plan pieces.items failing.items }
     {
@@ -44,7 +44,7 @@ impl Calls {
         }
     }
 
-    /// The next call, for `len` bytes: how many of them it moves, or `None` where it fails.
+    /// Makes the next call for `len` bytes, and returns how many of them it moves, or `None` if it fails.
     pub(crate) fn next(&mut self, len: usize) -> Option<usize>
         ensures fails { IsNone result ↔ Contains self.old.failing self.old.calls }
         ensures moved { IfSome result (λ n. n ≡ moved_len self.old.pieces self.old.calls len) }
@@ -61,7 +61,7 @@ impl Calls {
         Some(moved)
     }
 
-    /// The next call fails.
+    /// Makes the next call fail.
     pub(crate) fn fail(&mut self)
         ensures fault { self.new ≡ after_fault self.old }
         ensures rose { Rose self.old.faults self.new.faults }
@@ -71,7 +71,7 @@ impl Calls {
     }
 }
 
-/// How many of `len` bytes a call moves.
+/// Returns how many of `len` bytes call number `call` moves.
 fn piece_len(pieces: &[u32], call: u64, len: usize) -> usize
     ensures { result ≡ moved_len pieces.now call len }
 {

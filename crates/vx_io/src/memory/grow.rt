@@ -8,11 +8,10 @@ use crate::write::{Sink, SinkFailed};
 use std::alloc::Global;
 use std::marker::Model;
 
-/// A sink in memory that takes as many bytes as there is memory for. It tells its bytes.
+/// A sink in memory that takes as many bytes as there is memory for. Contracts know its bytes.
 ///
-/// It is seen as the bytes that it took, and how many of its writes failed.
-///
-/// A write takes all of its piece. It fails only for want of memory, and takes nothing then.
+/// A write takes all of its piece. It fails only for lack of memory, and then takes nothing. *Model:* the
+/// bytes taken, and the number of failed writes.
 #[derive(Drop)]
 pub struct GrowSink {
     bytes: Vec<u8>,
@@ -28,7 +27,7 @@ impl Model for GrowSink {
 }
 
 impl GrowSink {
-    /// A sink that has taken nothing.
+    /// Returns a sink that has taken nothing.
     pub fn new(alloc: Global) -> GrowSink
         ensures { result ≡ record { taken = []; faults = 0 } }
     {
@@ -38,7 +37,7 @@ impl GrowSink {
         }
     }
 
-    /// The bytes that were written.
+    /// Returns the bytes that were written.
     pub fn bytes(&self) -> &[u8]
         ensures { result.now ≡ self.now.taken }
     {
@@ -57,7 +56,7 @@ impl Sink for GrowSink {
         ensures some { IfOk result (λ n. 0 < length piece.now → 0 < n) }
         ensures faults { CountsFault self.old.faults self.new.faults result }
 
-        // All of it, or for want of memory nothing.
+        // Takes all of it, or nothing for lack of memory.
         ensures count { IfOk result (λ n. n ≡ length piece.now) }
         ensures taken { OnOk result (self.new ≡ record self.old { taken = self.old.taken ++ piece.now }) }
         ensures failed { OnErr result (self.new ≡ record self.old { faults = count_after self.old.faults }) }

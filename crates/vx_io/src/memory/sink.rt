@@ -1,4 +1,4 @@
-//! A sink in memory.
+//! A sink in memory with limited room.
 ghost use Rattle.std.specs.Prelude.{◌≡◌, ◌-◌, ◌<◌, ◌↔◌, ◌⊎◌, ◌++◌, ℕ, Some, [], min, length, take, IfOk, OnErr, IsErr};
 ghost use Rattle.std.specs.List.{Contains};
 ghost use Rattle.std.specs.Io.{WritesAtMost};
@@ -11,12 +11,11 @@ use crate::write::{Sink, SinkFailed};
 use std::alloc::{AllocError, Global};
 use std::marker::Model;
 
-/// A sink in memory, with room for a number of bytes. It tells its bytes.
+/// A sink in memory with room for a given number of bytes. Contracts know its bytes.
 ///
-/// It is seen as the bytes that it took, its room and how its calls go.
-///
-/// Writes go in pieces, and some fail, as reads of a [`MemorySource`](super::MemorySource) do. A
-/// write fails also where the room is used up, unless it is of nothing.
+/// Writes are cut into pieces and fail as the reads of a [`MemorySource`](super::MemorySource) do. A write of
+/// at least one byte also fails once the room is used up. *Model:* the bytes taken, the room, and the plan of
+/// its calls.
 #[derive(Drop)]
 pub struct MemorySink {
     bytes: Vec<u8>,
@@ -36,11 +35,11 @@ impl Model for MemorySink {
 }
 
 impl MemorySink {
-    /// A sink with this room, all of which it takes at once.
+    /// Returns an empty sink, and allocates all of its room.
     ///
     /// # Errors
     ///
-    /// Where memory runs out.
+    /// `AllocError` if memory runs out.
     pub fn new(
         alloc: Global,
         room: usize,
@@ -60,7 +59,7 @@ impl MemorySink {
         })
     }
 
-    /// The bytes that were written.
+    /// Returns the bytes that were written.
     pub fn bytes(&self) -> &[u8]
         ensures { result.now ≡ self.now.taken }
     {
@@ -73,19 +72,19 @@ impl Sink for MemorySink {
 
     ghost write_faults = { λ m. m.plan.faults };
 
-    /// It takes no memory.
+    /// Appends a prefix of `piece`, and returns its length. Takes no memory.
     fn write(&mut self, piece: &[u8]) -> Result<usize, SinkFailed>
         ensures bound { WritesAtMost result piece.now }
         ensures bytes { WriteAppends (Some self.old.taken) (Some self.new.taken) result piece.now }
         ensures some { IfOk result (λ n. 0 < length piece.now → 0 < n) }
         ensures faults { CountsFault self.old.plan.faults self.new.plan.faults result }
 
-        // A write fails exactly where its number is listed, or it has bytes and no room is left.
+        // A write fails if and only if its number is listed, or it has bytes and no room is left.
         ensures fails { IsErr result ↔ (Contains self.old.plan.failing self.old.plan.calls
             ⊎ ((length self.old.taken ≡ self.old.room) × (0 < length piece.now))) }
         ensures failed { OnErr result (self.new ≡ record self.old { plan = after_fault self.old.plan }) }
 
-        // Else it takes what its piece and the room allow.
+        // Otherwise it takes what its piece length and the room allow.
         ensures count { IfOk result (λ n. n ≡ moved_len self.old.plan.pieces self.old.plan.calls
             (min (length piece.now) (self.old.room - length self.old.taken))) }
         ensures taken { IfOk result (λ n. self.new ≡ record self.old {

@@ -10,13 +10,12 @@ use super::calls::Calls;
 use crate::read::{Source, SourceFailed};
 use std::marker::Model;
 
-/// A source over bytes in memory. It tells its bytes.
+/// A source over bytes in memory, for tests and for streams that are already loaded. Contracts know its
+/// bytes.
 ///
-/// It is seen as the bytes that are left and how its calls go.
-///
-/// Reads come in pieces: read i, from 0, gives at most `pieces[i % pieces.len()]` bytes, where a 0
-/// counts as 1, and no pieces set no bound. The reads whose numbers `failing` lists fail, and no
-/// others. Numbers stop at 2^64 - 1, which all reads from that one on have.
+/// Read number i (from 0) returns at most `pieces[i % pieces.len()]` bytes; 0 counts as 1, and an empty
+/// `pieces` sets no limit. Exactly the reads whose numbers `failing` lists fail. Numbers stop at 2^64 - 1,
+/// which is the number of every later read. *Model:* the bytes left, and the plan of its calls.
 #[derive(Drop)]
 pub struct MemorySource {
     bytes: Vec<u8>,
@@ -36,7 +35,7 @@ impl Model for MemorySource {
 }
 
 impl MemorySource {
-    /// A source of these bytes that wasn't read yet.
+    /// Returns a source of `bytes` of which nothing has been read.
     pub fn new(bytes: Vec<u8>, pieces: Vec<u32>, failing: Vec<u64>) -> MemorySource
         ensures { result ≡ record {
           left = bytes.items;
@@ -61,12 +60,12 @@ impl Source for MemorySource {
         ensures bytes { ReadConsumes (Some self.old.left) (Some self.new.left) result into.new }
         ensures faults { CountsFault self.old.plan.faults self.new.plan.faults result }
 
-        // A read fails exactly where its number is listed.
+        // A read fails if and only if its number is listed.
         ensures fails { IsErr result ↔ Contains self.old.plan.failing self.old.plan.calls }
         ensures failed { OnErr result (self.new ≡ record self.old { plan = after_fault self.old.plan }) }
         ensures kept { OnErr result (into.new ≡ into.old) }
 
-        // Else it gives what its piece, the room and the bytes left allow.
+        // Otherwise it returns what its piece length, the room and the bytes left allow.
         ensures count { IfOk result (λ n. n ≡ moved_len self.old.plan.pieces self.old.plan.calls
             (min (length into.old) (length self.old.left))) }
         ensures filled { IfOk result (λ n. into.new ≡ take n self.old.left ++ drop n into.old) }

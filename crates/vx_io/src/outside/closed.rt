@@ -7,9 +7,10 @@ ghost use Rattle.vx_io.specs.Faults.{CountsFault, count_after};
 use crate::read::{Source, SourceFailed};
 use std::marker::Model;
 
-/// A source that stands for a file that could not be opened. Every read fails. It tells that it has no bytes left.
+/// A source in place of a file that could not be opened: every read fails. To contracts, it has no bytes
+/// left.
 ///
-/// It is seen as its count of faults.
+/// *Model:* its count of faults.
 #[derive(Drop)]
 pub struct ClosedSource {
     faults: u64,
@@ -24,7 +25,7 @@ impl Model for ClosedSource {
 }
 
 impl ClosedSource {
-    /// A closed source that wasn't read yet.
+    /// Returns a closed source of which no read has failed.
     pub fn new() -> ClosedSource
         ensures { result ≡ 0 }
     {

@@ -8,7 +8,7 @@ use crate::read::{Source, SourceFailed};
 use std::fs::File;
 use std::io::Read;
 
-/// A source over a reader of the system. It doesn't tell its bytes.
+/// A source over a reader of the system. Contracts don't know its bytes.
 #[derive(Drop)]
 pub struct ReaderSource<R: Read + Drop> {
     from: R,
@@ -21,7 +21,7 @@ pub type FileSource = ReaderSource<File>;
 impl<R: Read + Drop> ReaderSource<R> {
     ghost use Rattle.vx_io.specs.Outside.{reader_of, read_fault_count};
 
-    /// A source over this reader, of which no read has failed.
+    /// Returns a source over `from` of which no read has failed.
     pub fn new(from: R) -> ReaderSource<R>
         ensures reader { reader_of result ≡ from }
         ensures faults { read_fault_count result ≡ 0 }
@@ -37,15 +37,17 @@ impl<R: Read + Drop> Source for ReaderSource<R> {
 
     ghost read_faults = { λ s. s.faults };
 
-    /// Asks the reader once; its error is a failed read, and adds one to the count. That no other
-    /// read fails is tested, and no contract: those of std's readers don't tell when one fails.
+    /// Reads from the reader once. Its error becomes a failed read and adds one to the count of faults.
+    ///
+    /// That no other read fails is tested, not proved: the contracts of std's readers don't say when one
+    /// fails.
     fn read(&mut self, into: &mut [u8]) -> Result<usize, SourceFailed>
         ensures bound { ReadsAtMost result into.new }
         ensures bytes { ReadConsumes None None result into.new }
         ensures faults { CountsFault (read_fault_count self.old) (read_fault_count self.new) result }
         ensures one { CountsOne (read_fault_count self.old) (read_fault_count self.new) result }
 
-        // The reader behind it gives just these bytes, where it tells them.
+        // The reader inside gives just these bytes, if its contract knows them.
         ensures reader { ReadConsumes (R.remaining (reader_of self.old)) (R.remaining (reader_of self.new))
             result into.new }
     {

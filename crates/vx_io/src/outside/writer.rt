@@ -7,7 +7,7 @@ ghost use Rattle.vx_io.specs.Faults.{CountsFault, CountsOne};
 use crate::write::{Sink, SinkFailed};
 use std::io::Write;
 
-/// A sink over a writer of the system. It doesn't tell its bytes.
+/// A sink over a writer of the system. Contracts don't know its bytes.
 #[derive(Drop)]
 pub struct WriterSink<W: Write + Drop> {
     to: W,
@@ -17,7 +17,7 @@ pub struct WriterSink<W: Write + Drop> {
 impl<W: Write + Drop> WriterSink<W> {
     ghost use Rattle.vx_io.specs.Outside.{writer_of, write_fault_count};
 
-    /// A sink over this writer, of which no write has failed.
+    /// Returns a sink over `to` of which no write has failed.
     pub fn new(to: W) -> WriterSink<W>
         ensures writer { writer_of result ≡ to }
         ensures faults { write_fault_count result ≡ 0 }
@@ -33,9 +33,11 @@ impl<W: Write + Drop> Sink for WriterSink<W> {
 
     ghost write_faults = { λ s. s.faults };
 
-    /// Asks the writer once; its error, or an answer that it took none of the bytes, is a failed
-    /// write, and adds one to the count. That no other write fails is tested, and no contract:
-    /// those of std's writers don't tell when one fails.
+    /// Writes to the writer once. Its error, or a count of 0 for a piece with bytes, becomes a failed write
+    /// and adds one to the count of faults.
+    ///
+    /// That no other write fails is tested, not proved: the contracts of std's writers don't say when one
+    /// fails.
     fn write(&mut self, piece: &[u8]) -> Result<usize, SinkFailed>
         ensures bound { WritesAtMost result piece.now }
         ensures bytes { WriteAppends None None result piece.now }
@@ -43,7 +45,7 @@ impl<W: Write + Drop> Sink for WriterSink<W> {
         ensures faults { CountsFault (write_fault_count self.old) (write_fault_count self.new) result }
         ensures one { CountsOne (write_fault_count self.old) (write_fault_count self.new) result }
 
-        // The writer behind it takes just these bytes, where it tells them.
+        // The writer inside takes just these bytes, if its contract knows them.
         ensures writer { WriteAppends (W.contents (writer_of self.old)) (W.contents (writer_of self.new))
             result piece.now }
     {
