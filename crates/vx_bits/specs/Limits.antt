@@ -1,6 +1,6 @@
--- How long what is read may be.
+-- The size limit of what is read.
 use Rattle.std.specs.Prelude.{ℕ, ◌^◌}
 
--- the most bytes that a unit may have (our own limit)
+-- The greatest number of bytes of a unit (our own limit).
 abbrev pub unit_limit : ℕ
 unit_limit = 2 ^ 23

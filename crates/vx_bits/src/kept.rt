@@ -1,4 +1,5 @@
-//! The kept fields of a structure, which no list of all its fields can be taken for.
+//! The kept fields of a structure, in a type of their own, so that a list of all fields can't be passed for
+//! them.
 ghost use Rattle.std.specs.Prelude.{◌≡◌, ◌<◌, List, [], ◌∷◌, ◌++◌, length, Some, OnOk, OnErr, slice_get, slice_index_or};
 ghost use Rattle.vx_bits.specs.declared.list.Item.{Item};
 
@@ -6,9 +7,9 @@ use crate::list::{CopyList, Item};
 use std::alloc::{AllocError, Global};
 use std::marker::Model;
 
-/// The fields of a structure that are kept when it is rewritten, in the order in which they are spelled.
+/// A list of the fields of a structure that are kept when it is rewritten, in the order of their bits.
 ///
-/// It is seen as the list of their items.
+/// *Model:* the list of their items.
 #[derive(Drop)]
 pub struct Kept {
     items: CopyList<Item>,
@@ -21,7 +22,7 @@ impl Model for Kept {
 }
 
 impl Kept {
-    /// No fields. Takes no memory yet.
+    /// Returns an empty list. Takes no memory yet.
     pub fn new(alloc: Global) -> Kept
         ensures { result ≡ [] }
     {
@@ -34,7 +35,7 @@ impl Kept {
     ///
     /// # Errors
     ///
-    /// Where memory runs out, and the fields then stay as they were.
+    /// `AllocError` if memory runs out. The fields are then unchanged.
     pub fn push(&mut self, item: Item) -> Result<(), AllocError>
         ensures ok { OnOk result (self.new ≡ self.old ++ item ∷ []) }
         ensures err { OnErr result (self.new ≡ self.old) }
@@ -42,14 +43,14 @@ impl Kept {
         self.items.push(item)
     }
 
-    /// The number of fields.
+    /// Returns the number of fields.
     pub fn len(&self) -> usize
         ensures { result ≡ length self.now }
     {
         self.items.len()
     }
 
-    /// The field at an index, counted from 0.
+    /// Returns the field at index `i`, from 0.
     pub fn item(&self, i: usize) -> Item
         requires { i < length self.now }
         ensures value { slice_get self.now i ≡ Some result }
@@ -58,7 +59,7 @@ impl Kept {
         self.items.item(i)
     }
 
-    /// The fields as a slice.
+    /// Returns the fields as a slice.
     pub fn as_slice(&self) -> &[Item]
         ensures { result.now ≡ self.now }
     {

@@ -1,7 +1,7 @@
-//! Lists: one generic type that carries every list type of the project, and those that belong here.
+//! Lists: one generic type for every list type of the project, and the list types that belong here.
 //!
-//! A list type elsewhere is one line, as `pub type RectList = CopyList<Rect>;`, and a struct of its own where it
-//! guards something, as [`Kept`].
+//! A list type elsewhere is one line, such as `pub type RectList = CopyList<Rect>;`, or a struct of its own
+//! if it guards something, such as [`Kept`](crate::Kept).
 ghost use Rattle.std.specs.Prelude.{◌≡◌, ◌<◌, List, [], ◌∷◌, ◌++◌, length, Some, IfOk, OnOk, OnErr, slice_get, slice_index_or};
 ghost use Rattle.std.specs.Slice.Iter.{iter_rest};
 ghost use Rattle.std.specs.Iterator.Adapters.{IterYieldsInOrder};
@@ -11,25 +11,25 @@ use std::alloc::{AllocError, Global};
 use std::marker::{Model, PhantomData};
 use std::slice::Iter;
 
-/// A list, whose entries are handed out as `By` says: [`ByValue`] or [`ByReference`].
+/// A list whose entries are returned as `By` says: [`ByValue`] or [`ByReference`].
 ///
-/// It is seen as the list of its entries.
+/// *Model:* the list of its entries.
 #[derive(Drop)]
 pub struct Entries<T, By> {
     entries: Vec<T>,
     by: PhantomData<By>,
 }
 
-/// A list's `item` gives a copy of the entry.
+/// Marks a list whose `item` returns a copy of the entry.
 pub struct ByValue;
 
-/// A list's `item` lends the entry.
+/// Marks a list whose `item` lends the entry.
 pub struct ByReference;
 
-/// A list whose entries are handed out as copies.
+/// A list that returns copies of its entries.
 pub type CopyList<T> = Entries<T, ByValue>;
 
-/// A list whose entries are lent.
+/// A list that lends its entries.
 pub type LentList<T> = Entries<T, ByReference>;
 
 impl<T, By> Model for Entries<T, By> {
@@ -39,7 +39,7 @@ impl<T, By> Model for Entries<T, By> {
 }
 
 impl<T: Drop, By> Entries<T, By> {
-    /// An empty list. Takes no memory yet.
+    /// Returns an empty list. Takes no memory yet.
     pub fn new(alloc: Global) -> Entries<T, By>
         ensures { result ≡ [] }
     {
@@ -49,11 +49,11 @@ impl<T: Drop, By> Entries<T, By> {
         }
     }
 
-    /// An empty list with room for so many entries.
+    /// Returns an empty list with room for `capacity` entries.
     ///
     /// # Errors
     ///
-    /// Where memory runs out.
+    /// `AllocError` if memory runs out.
     pub fn with_capacity(alloc: Global, capacity: usize) -> Result<Entries<T, By>, AllocError>
         ensures { IfOk result (λ list. list ≡ []) }
     {
@@ -65,7 +65,8 @@ impl<T: Drop, By> Entries<T, By> {
         })
     }
 
-    /// Where no room is left, makes some for sixteen further entries, or for as many as there are, whichever is more.
+    /// Makes room if there is none left: for sixteen more entries, or for as many as the list has, whichever
+    /// is more.
     #[inline(always)]
     fn make_room(&mut self) -> Result<(), AllocError>
         ensures { self.new ≡ self.old }
@@ -80,7 +81,7 @@ impl<T: Drop, By> Entries<T, By> {
     ///
     /// # Errors
     ///
-    /// Where memory runs out, and the list then stays as it was.
+    /// `AllocError` if memory runs out. The list is then unchanged.
     #[inline(always)]
     pub fn push(&mut self, entry: T) -> Result<(), AllocError>
         ensures ok { OnOk result (self.new ≡ self.old ++ entry ∷ []) }
@@ -91,7 +92,7 @@ impl<T: Drop, By> Entries<T, By> {
         Ok(())
     }
 
-    /// The number of entries.
+    /// Returns the number of entries.
     #[inline(always)]
     pub fn len(&self) -> usize
         ensures { result ≡ length self.now }
@@ -99,14 +100,14 @@ impl<T: Drop, By> Entries<T, By> {
         self.entries.len()
     }
 
-    /// The entries as a slice.
+    /// Returns the entries as a slice.
     pub fn as_slice(&self) -> &[T]
         ensures { result.now ≡ self.now }
     {
         self.entries.as_slice()
     }
 
-    /// The entries in order.
+    /// Returns an iterator over the entries, in order.
     pub fn iter(&self) -> Iter<'_, T>
         ensures rest { iter_rest result ≡ self.now }
         ensures runs { IterYieldsInOrder T }
@@ -116,11 +117,11 @@ impl<T: Drop, By> Entries<T, By> {
 }
 
 impl<T: Copy> CopyList<T> {
-    /// A list of the entries of a slice, in order.
+    /// Returns a list of the entries of a slice, in order.
     ///
     /// # Errors
     ///
-    /// Where memory runs out.
+    /// `AllocError` if memory runs out.
     pub fn from_slice(alloc: Global, entries: &[T]) -> Result<CopyList<T>, AllocError>
         ensures { IfOk result (λ list. list ≡ entries.now) }
     {
@@ -129,7 +130,7 @@ impl<T: Copy> CopyList<T> {
         Ok(list)
     }
 
-    /// The entry at an index, counted from 0.
+    /// Returns the entry at index `i`, from 0.
     #[inline(always)]
     pub fn item(&self, i: usize) -> T
         requires { i < length self.now }
@@ -143,7 +144,7 @@ impl<T: Copy> CopyList<T> {
     ///
     /// # Errors
     ///
-    /// Where memory runs out, and the list then stays as it was.
+    /// `AllocError` if memory runs out. The list is then unchanged.
     pub fn extend_from_slice(&mut self, entries: &[T]) -> Result<(), AllocError>
         ensures ok { OnOk result (self.new ≡ self.old ++ entries.now) }
         ensures err { OnErr result (self.new ≡ self.old) }
@@ -153,7 +154,7 @@ impl<T: Copy> CopyList<T> {
 }
 
 impl<T: Drop> LentList<T> {
-    /// The entry at an index, counted from 0.
+    /// Returns the entry at index `i`, from 0.
     #[inline(always)]
     pub fn item(&self, i: usize) -> &T
         requires { i < length self.now }
@@ -164,32 +165,32 @@ impl<T: Drop> LentList<T> {
     }
 }
 
-/// One field of a syntax structure: the field's number and its value.
+/// One field of a syntax structure: its number and its value.
 #[derive(Clone, Copy, Debug, PartialEq, Eq)]
 pub struct Item {
     /// The number of the field.
     pub field: u16,
-    /// The value that the bits spell.
+    /// The value that the bits code.
     pub value: i64,
 }
 
-/// The value of a syntax structure: its fields in the order in which they are spelled.
+/// The value of a syntax structure: its fields in the order of their bits.
 pub type Fields = CopyList<Item>;
 
-/// Bytes.
+/// A list of bytes.
 pub type Bytes = CopyList<u8>;
 
-/// Byte strings.
+/// A list of byte strings.
 pub type ByteLists = LentList<Bytes>;
 
-/// Borrowed byte strings.
+/// A list of borrowed byte strings.
 pub type BodyList<'a> = CopyList<&'a [u8]>;
 
-/// Ids.
+/// A list of ids.
 pub type IdList = CopyList<u32>;
 
 impl CopyList<Item> {
-    /// The value of the first item of a field, or `None` where no item has it.
+    /// Returns the value of the first item of `field`, or `None` if no item has it.
     pub fn first(&self, field: u16) -> Option<i64>
         ensures { result ≡ first_value self.now field }
     {

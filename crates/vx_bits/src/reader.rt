@@ -1,4 +1,4 @@
-//! Reading: codes are taken from the front of bytes.
+//! Reading: codes are taken from the start of bytes.
 ghost use Rattle.std.specs.Prelude.{◌≡◌, ◌≢◌, ◌↔◌, ◌⊎◌, ℕ, ◌+◌, ◌-◌, ◌*◌, ◌/◌, ◌%◌, ◌^◌, ◌<◌, ◌≤◌, Bool, true, List, [], ◌++◌, length, take, drop, min, Contains, MatchOption, IfOk, IfErr, OnOk, OnErr, IsErrOf};
 ghost use Rattle.vx_bits.specs.Codes.{number, fixed, exp_golomb, signed_exp_golomb, code_number, bits_of, to_boundary, zeros_from, one_from, IsCodeNumber, BeginsWith, EndsWithinCode, BeginsTooLong};
 ghost use Rattle.vx_bits.specs.Place.{Place, Takes, taken};
@@ -10,10 +10,10 @@ use crate::refusal::BitCause;
 use crate::window::{Window, filled};
 use std::marker::Model;
 
-/// Bits that are taken from the front of bytes, the highest of each byte first.
+/// A reader that takes bits from the start of bytes, the highest bit of each byte first.
 ///
-/// It is seen as the number of all its bits and those that are left.
-/// No call takes memory, and a refused call leaves it unchanged.
+/// No call takes memory, and a call that returns an error leaves the reader unchanged. *Model:* the number of
+/// all its bits, and the bits left.
 #[derive(Drop)]
 pub struct BitReader<'a> {
     bytes: &'a [u8],
@@ -29,7 +29,7 @@ impl<'a> Model for BitReader<'a> {
 }
 
 impl<'a> BitReader<'a> {
-    /// A reader of all bits of these bytes, of which there are at most 2^23.
+    /// Returns a reader of all bits of `bytes`, which has at most 2^23 bytes.
     pub fn new(bytes: &'a [u8]) -> BitReader<'a>
         requires { length bytes.now ≤ unit_limit }
         ensures total { result.total ≡ 8 * length bytes.now }
@@ -45,7 +45,7 @@ impl<'a> BitReader<'a> {
         }
     }
 
-    /// The number of bits taken.
+    /// Returns the number of bits taken.
     #[inline(always)]
     pub fn at(&self) -> u32
         ensures taken { result ≡ taken self.now }
@@ -54,7 +54,7 @@ impl<'a> BitReader<'a> {
         8 * self.window.next - self.window.held
     }
 
-    /// A reader at the same place, which goes on by itself.
+    /// Returns a second reader at the same place, which is then independent of this one.
     #[inline(always)]
     pub fn fork(&self) -> BitReader<'a>
         ensures { result ≡ self.now }
@@ -65,7 +65,7 @@ impl<'a> BitReader<'a> {
         }
     }
 
-    /// The number of bits left.
+    /// Returns the number of bits left.
     #[inline(always)]
     fn left(&self) -> u32
         ensures { result ≡ length self.now.left }
@@ -73,7 +73,7 @@ impl<'a> BitReader<'a> {
         8 * (self.bytes.len() as u32 - self.window.next) + self.window.held
     }
 
-    /// The number of which the next `count` bits are the binary representation.
+    /// Returns the number that the next `count` bits represent, without taking them.
     #[inline(always)]
     fn next_bits(&mut self, count: u32) -> u64
         requires count { count ≤ 32 }
@@ -85,7 +85,7 @@ impl<'a> BitReader<'a> {
         self.window.word >> (self.window.held - count)
     }
 
-    /// Takes the next `count` bits, and gives the number of which they are the binary representation.
+    /// Takes the next `count` bits, and returns the number that they represent.
     #[inline(always)]
     fn read_bits(&mut self, count: u32) -> u64
         requires count { count ≤ 32 }
@@ -104,11 +104,11 @@ impl<'a> BitReader<'a> {
         word >> held
     }
 
-    /// Takes u(n), the next n bits, of which there are at most 32.
+    /// Takes u(n): the next `n` bits, at most 32 (H.266 7.2).
     ///
     /// # Errors
     ///
-    /// `Short` where fewer bits are left.
+    /// `Short` if fewer than `n` bits are left.
     #[inline(always)]
     pub fn u(&mut self, n: u32) -> Result<u64, BitCause>
         requires { n ≤ 32 }
@@ -123,7 +123,7 @@ impl<'a> BitReader<'a> {
         Ok(self.read_bits(n))
     }
 
-    /// The number of zeros that come next, of which at most 32 are counted.
+    /// Returns the number of zeros that come next; it counts at most 32.
     #[inline(always)]
     fn zeros(&mut self) -> u32
         ensures value { result ≡ zeros_in_front (take 32 self.old.left) }
@@ -133,11 +133,12 @@ impl<'a> BitReader<'a> {
         self.next_bits(window).leading_zeros() - (64 - window)
     }
 
-    /// Takes ue(v), H.266 clause 9.2.
+    /// Takes ue(v) (H.266 clause 9.2).
     ///
     /// # Errors
     ///
-    /// `LongCode` where 32 zeros come next; `Short` where the bits end within a code.
+    /// - `Short` if the bits end within a code.
+    /// - `LongCode` if 32 zeros come next.
     #[inline(always)]
     pub fn ue(&mut self) -> Result<u32, BitCause>
         ensures value { IfOk result (λ v. IsCodeNumber v × Takes (exp_golomb v) self.old self.new) }
@@ -160,7 +161,7 @@ impl<'a> BitReader<'a> {
         Ok((code - 1) as u32)
     }
 
-    /// Takes se(v), H.266 clause 9.2.
+    /// Takes se(v) (H.266 clause 9.2).
     ///
     /// # Errors
     ///
@@ -179,7 +180,7 @@ impl<'a> BitReader<'a> {
         Ok(signed(code))
     }
 
-    /// The number of bits up to the byte boundary.
+    /// Returns the number of bits up to the next byte boundary.
     fn to_next_byte(&self) -> u32
         ensures value { result ≡ to_boundary (taken self.now) }
         ensures within { result ≤ length self.now.left }
@@ -188,11 +189,11 @@ impl<'a> BitReader<'a> {
         self.window.held % 8
     }
 
-    /// Takes zeros up to the byte boundary.
+    /// Takes zeros up to the next byte boundary.
     ///
     /// # Errors
     ///
-    /// `BadAlignment` where one of the bits up to the boundary is 1.
+    /// `BadAlignment` if one of these bits is 1.
     pub fn align(&mut self) -> Result<(), BitCause>
         ensures value { OnOk result (Takes (zeros_from (taken self.old)) self.old self.new) }
         ensures bad { IsErrOf result BitCause.BadAlignment
@@ -209,7 +210,7 @@ impl<'a> BitReader<'a> {
         Ok(())
     }
 
-    /// The length of a one and zeros up to the byte boundary.
+    /// Returns the length of a one and zeros up to the byte boundary.
     fn past_next_one(&self) -> u32
         ensures value { result ≡ length (one_from (taken self.now)) }
         ensures within { self.now.left ≢ [] → result ≤ length self.now.left }
@@ -218,7 +219,7 @@ impl<'a> BitReader<'a> {
         (self.window.held + 7) % 8 + 1
     }
 
-    /// The length of a one and zeros up to the byte boundary, where these come next.
+    /// Returns the length of a one and zeros up to the byte boundary, or `None` if other bits come next.
     fn stop_length(&mut self) -> Option<u32>
         requires { self.old.left ≢ [] }
         ensures value { let stop = one_from (taken self.old) in
@@ -239,7 +240,8 @@ impl<'a> BitReader<'a> {
     ///
     /// # Errors
     ///
-    /// `Short` where no bit is left; `BadAlignment` otherwise where the bits are others.
+    /// - `Short` if no bit is left.
+    /// - `BadAlignment` if other bits come next.
     pub fn align_after_one(&mut self) -> Result<(), BitCause>
         ensures value { OnOk result (Takes (one_from (taken self.old)) self.old self.new) }
         ensures short { IsErrOf result BitCause.Short ↔ (self.old.left ≡ []) }
@@ -259,11 +261,12 @@ impl<'a> BitReader<'a> {
         Ok(())
     }
 
-    /// Takes a one, and zeros up to the byte boundary, with which the bytes end.
+    /// Takes a one, and zeros up to the byte boundary, at which the bytes end.
     ///
     /// # Errors
     ///
-    /// `Short` where no bit is left; `BadTrailing` otherwise where the bits are others or more bytes follow.
+    /// - `Short` if no bit is left.
+    /// - `BadTrailing` if other bits come next, or more bytes follow.
     pub fn trailing(&mut self) -> Result<(), BitCause>
         ensures value { OnOk result (Takes (one_from (taken self.old)) self.old self.new) }
         ensures last { OnOk result (self.new.left ≡ []) }
@@ -288,7 +291,7 @@ impl<'a> BitReader<'a> {
     }
 }
 
-/// The number for which se(v) has the code of ue(code), H.266 clause 9.2.
+/// Returns the value of se(v) whose codeNum is `code` (H.266 clause 9.2).
 #[inline(always)]
 fn signed(code: u32) -> i32
     requires { IsCodeNumber code }

@@ -1,31 +1,31 @@
-//! Why a stream is refused: the causes of a bit call, and the rule that was broken.
+//! Reasons to refuse a stream: the causes in bits, and the rule that is broken.
 ghost use Rattle.std.specs.Prelude.{◌≡◌};
 ghost use Rattle.vx_bits.specs.declared.refusal.ReadError.TheVariants.{Memory as OutOfMemory};
 
 use std::alloc::AllocError;
 use thiserror::Error;
 
-/// Why no code of the wanted kind begins at a place of the bits.
+/// The reason why no code of the wanted kind begins at a place in the bits.
 #[derive(Clone, Copy, Debug, PartialEq, Eq)]
 pub enum BitCause {
     /// The bits end within the code.
     Short,
-    /// 32 zeros stand where an Exp-Golomb code is to begin.
+    /// 32 zeros come where an Exp-Golomb code should begin.
     LongCode,
-    /// The bits left aren't a one and then zeros to the end of the bytes.
+    /// The bits left aren't a one followed by zeros to the end of the bytes.
     BadTrailing,
-    /// The bits to the byte boundary aren't those of an alignment.
+    /// The bits up to the byte boundary aren't those of an alignment.
     BadAlignment,
     /// The number is outside its range.
     OutOfRange,
 }
 
-/// The rule that a stream, or what is asked of it, breaks.
+/// The rule that a stream, or a request for it, breaks.
 ///
-/// `code` numbers the rules of a kind, as [`rules`](crate::rules) has them.
+/// `code` is the number of the rule within its kind, as listed in [`rules`](crate::rules).
 #[derive(Clone, Copy, Debug, PartialEq, Eq)]
 pub enum Refusal {
-    /// The bytes aren't framed as H.266 Annex B and 7.3.1 say; `byte` is the place in the source.
+    /// The bytes aren't framed as H.266 Annex B and 7.3.1 require; `byte` is the place in the source.
     Framing {
         code: u8,
         byte: u64,
@@ -36,15 +36,15 @@ pub enum Refusal {
         bit: u32,
         cause: BitCause,
     },
-    /// A value that the accepted profiles don't have.
+    /// A value is outside the accepted profiles.
     Profile {
         code: u8,
     },
-    /// A number passes a limit.
+    /// A number exceeds a limit.
     Limit {
         code: u8,
     },
-    /// The units don't follow one another as a coded video sequence has to; `kind` and `id` name a set.
+    /// The units don't follow one another as in a coded video sequence; `kind` and `id` name a set.
     Structure {
         code: u8,
         kind: u8,
@@ -54,7 +54,8 @@ pub enum Refusal {
     Extract {
         code: u8,
     },
-    /// Pictures can't be merged; `source` is the source that breaks the rule, and `field` the one that differs, for a rule on fields.
+    /// Pictures can't be merged; `source` is the source that breaks the rule, and `field` the field that
+    /// differs, for a rule on fields.
     Merge {
         code: u8,
         source: u16,
@@ -62,7 +63,7 @@ pub enum Refusal {
     },
 }
 
-/// Why a reader has no value.
+/// The reason why a reader returns no value.
 #[derive(Clone, Copy, Debug, PartialEq, Eq, Error)]
 pub enum ReadError {
     /// Memory ran out.

@@ -1,13 +1,14 @@
-//! The numbers of all rules by which a stream, or what is asked of it, is refused.
+//! The numbers of all rules by which a stream, or a request for it, is refused.
 //!
-//! A number is the `code` of the [`Refusal`](crate::Refusal) of its kind. The program prints it behind the kind's
-//! letter: F for framing, L for limits, P for profiles, S for structure, E for extracting, M for merging.
+//! A number is the `code` of the [`Refusal`](crate::Refusal) of its kind. The program prints it after the
+//! kind's letter: F for framing, L for limits, P for profiles, S for structure, E for extracting, M for
+//! merging.
 
 // Framing: H.266 Annex B and clauses 7.3.1 and 7.4.2.
 
-/// F1: outside a unit stands a byte that is no zero and no end of a start code.
+/// F1: a byte outside of any unit is neither a zero nor the end of a start code.
 pub const NOT_A_START_CODE: u8 = 1;
-/// F2: a byte stands in a unit where emulation prevention rules it out.
+/// F2: a byte in a unit violates emulation prevention.
 pub const BAD_EMULATION: u8 = 2;
 /// F3: a unit's header can't be read.
 pub const BAD_HEADER: u8 = 3;
@@ -20,7 +21,7 @@ pub const LONG_UNIT: u8 = 1;
 pub const LONG_PICTURE: u8 = 2;
 /// L3: a source, or a merged stream, has more than 2^40 bytes.
 pub const LONG_SOURCE: u8 = 3;
-/// L4: more than 64 sources, or regions of a view, are named.
+/// L4: there are more than 64 sources, or regions of a view.
 pub const TOO_MANY_SOURCES: u8 = 4;
 /// L5: a picture has more than 1,000 slices.
 pub const TOO_MANY_SLICES: u8 = 5;
@@ -34,14 +35,14 @@ pub const TOO_MANY_REF_PIC_LISTS: u8 = 8;
 pub const TOO_MANY_SUBPICTURES: u8 = 9;
 /// L10: the SEI messages gathered for a picture have more than 65,536 bytes.
 pub const LONG_MESSAGES: u8 = 10;
-/// L11: more than 256 files are named for the regions of a view.
+/// L11: there are more than 256 files for the regions of a view.
 pub const TOO_MANY_FILES: u8 = 11;
 
-// Profiles: what the accepted streams don't have.
+// Profiles: what the accepted streams may not have.
 
 /// P1: a unit belongs to a layer above 0.
 pub const SEVERAL_LAYERS: u8 = 1;
-/// P2: an SPS refers to a VPS, and so may belong to one layer of several.
+/// P2: an SPS refers to a VPS, so it may belong to one layer of several.
 pub const VPS_REFERRED_TO: u8 = 2;
 /// P3: an SPS has no profile, tier and level.
 pub const NO_PROFILE_TIER_LEVEL: u8 = 3;
@@ -63,26 +64,27 @@ pub const MIXED_NAL_TYPES: u8 = 10;
 pub const SCALING_WINDOW: u8 = 11;
 /// P12: slices are runs of tiles in raster scan order.
 pub const RASTER_SCAN_SLICES: u8 = 12;
-/// P13: a PPS turns reference wraparound on.
+/// P13: a PPS enables reference wraparound.
 pub const REFERENCE_WRAPAROUND: u8 = 13;
 /// P14: a PPS has extension data.
 pub const PPS_EXTENSION: u8 = 14;
-/// P15: an APS has an id past those of its type.
+/// P15: an APS has an id above those of its type.
 pub const APS_ID: u8 = 15;
 
-// Structure: how sets, headers and slices follow one another.
+// Structure: the order of sets, headers and slices.
 
-/// S1: a set that is referred to hasn't come.
+/// S1: a set is missing that a unit refers to.
 pub const SET_MISSING: u8 = 1;
-/// S2: a slice comes where no picture has begun, or all slices of the picture came.
+/// S2: a slice comes before any picture has begun, or after all slices of the picture.
 pub const SLICE_WITHOUT_HEADER: u8 = 2;
 /// S3: a set comes between the slices of a picture.
 pub const SET_INSIDE_PICTURE: u8 = 3;
-/// S4: a picture lacks a slice where the next picture, or the end, comes, or another slice than the next one comes.
+/// S4: a picture lacks a slice when the next picture or the end comes, or another slice than the next one
+/// comes.
 pub const SLICE_MISSING: u8 = 4;
 /// S5: a slice names a subpicture that the picture doesn't have.
 pub const UNKNOWN_SUBPIC_ID: u8 = 5;
-/// S6: the first picture, or the first behind an end of sequence, is neither an IRAP nor a GDR picture.
+/// S6: the first picture, or the first after an end of sequence, is neither an IRAP nor a GDR picture.
 pub const STARTS_ELSEWHERE: u8 = 6;
 /// S7: the SPS changes within a coded layer video sequence.
 pub const SPS_CHANGED: u8 = 7;
@@ -90,11 +92,11 @@ pub const SPS_CHANGED: u8 = 7;
 pub const TYPES_DIFFER: u8 = 8;
 /// S9: a slice has another TemporalId than its picture.
 pub const TEMPORAL_ID_DIFFERS: u8 = 9;
-/// S10: the width or the height of a PPS isn't its SPS's.
+/// S10: the width or height in a PPS differs from its SPS's.
 pub const SIZE_DIFFERS: u8 = 10;
 /// S11: no byte follows a slice header.
 pub const EMPTY_PAYLOAD: u8 = 11;
-/// S12: tiles, slices and subpictures don't make a layout; the fault's number is the refusal's `id`.
+/// S12: tiles, slices and subpictures don't form a layout; the fault's number is the refusal's `id`.
 pub const LAYOUT: u8 = 12;
 /// S13: a picture order count doesn't fit in 32 bits.
 pub const POC_RANGE: u8 = 13;
@@ -107,7 +109,7 @@ pub const HEADER_INSIDE_OF_SEVERAL: u8 = 15;
 
 /// E1: the source has no picture.
 pub const NO_PICTURE: u8 = 1;
-/// E2: a picture has no subpicture of this index.
+/// E2: a picture has no subpicture with this index.
 pub const NO_SUCH_SUBPICTURE: u8 = 2;
 /// E3: the subpicture isn't treated as a picture.
 pub const NOT_TREATED_AS_PICTURE: u8 = 3;
@@ -122,23 +124,23 @@ pub const IRAP_DROPPED: u8 = 5;
 pub const SEVERAL_SUBPICTURES: u8 = 1;
 /// M2: kept fields of the SPSs differ.
 pub const SPS_TOOLS: u8 = 2;
-/// M3: the regions don't stand on the grid of CTUs, overlap, or leave a gap.
+/// M3: the regions aren't on the grid of CTUs, overlap, or leave a gap.
 pub const GEOMETRY: u8 = 3;
-/// M4: a region comes before one to its left or above it.
+/// M4: a region comes before another that is to its left or above it.
 pub const REGION_ORDER: u8 = 4;
-/// M5: the tile lines that pass through a region aren't its own.
+/// M5: the tile lines that run through a region aren't its own.
 pub const TILE_LINES: u8 = 5;
-/// M6: the types, the TemporalIds or the ends of sequence before the pictures differ.
+/// M6: the types, the TemporalIds, or the ends of sequence before the pictures differ.
 pub const PICTURE_KIND: u8 = 6;
 /// M7: kept fields of the PPSs differ.
 pub const PPS_TOOLS: u8 = 7;
 /// M8: kept fields of the picture headers differ.
 pub const PICTURE_HEADER: u8 = 8;
-/// M9: the LMCS or scaling list data that the headers name differ.
+/// M9: the LMCS or scaling list data named by the headers differ.
 pub const SHARED_SETS: u8 = 9;
 /// M10: the reference picture lists differ.
 pub const REFERENCE_LISTS: u8 = 10;
-/// M11: slices differ in whether pictures of before are output.
+/// M11: slices differ in whether earlier pictures are output.
 pub const OUTPUT_OF_PRIOR: u8 = 11;
 /// M12: a picture needs more than 8 ALF sets.
 pub const TOO_MANY_ALF: u8 = 12;
@@ -146,7 +148,7 @@ pub const TOO_MANY_ALF: u8 = 12;
 pub const FILTER_FLAGS: u8 = 13;
 /// M14: a source ends before another.
 pub const LENGTH: u8 = 14;
-/// M15: where files are joined a picture doesn't start a coded layer video sequence at TemporalId 0.
+/// M15: at a join of files, a picture doesn't start a coded layer video sequence at TemporalId 0.
 pub const JOIN_START: u8 = 15;
 /// M16: the collocated pictures of slices differ.
 pub const COLLOCATED: u8 = 16;

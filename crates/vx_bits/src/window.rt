@@ -1,10 +1,10 @@
-//! A window of bits over bytes, filled by whole bytes.
+//! A window of bits over bytes, filled with whole bytes.
 ghost use Rattle.std.specs.Prelude.{◌≡◌, ◌+◌, ◌*◌, ◌<◌, ◌≤◌, length, take, drop};
 ghost use Rattle.vx_bits.specs.Codes.{number, bits_of};
 ghost use Rattle.vx_bits.specs.inner.Window.{bits_ahead, IsWindow};
 ghost use Rattle.vx_bits.specs.Limits.{unit_limit};
 
-/// The next `held` bits as a number, and the index of the first byte behind them.
+/// The next `held` bits as a number, and the index of the first byte after them.
 #[derive(Clone, Copy)]
 pub(crate) struct Window {
     pub(crate) word: u64,
@@ -12,7 +12,7 @@ pub(crate) struct Window {
     pub(crate) next: u32,
 }
 
-/// The window with further bytes, where it holds fewer than `count` bits.
+/// Returns the window filled with further bytes if it holds fewer than `count` bits.
 #[inline(always)]
 pub(crate) fn filled(bytes: &[u8], window: Window, count: u32) -> Window
     requires count { count ≤ 32 }
@@ -32,7 +32,7 @@ pub(crate) fn filled(bytes: &[u8], window: Window, count: u32) -> Window
     }
 }
 
-/// The window with as many of the next eight bytes as it has room for.
+/// Returns the window with as many of the next eight bytes as it has room for.
 #[inline(always)]
 fn with_some_of(bytes: &[u8], window: Window, eight: u64) -> Window
     requires sound { IsWindow bytes.now window }
@@ -52,7 +52,7 @@ fn with_some_of(bytes: &[u8], window: Window, eight: u64) -> Window
     }
 }
 
-/// The window with as many further bytes as it takes to hold `count` bits.
+/// Returns the window with as many further bytes as it needs to hold `count` bits.
 fn with_bytes(bytes: &[u8], window: Window, count: u32) -> Window
     requires count { count ≤ 32 }
     requires length { length bytes.now ≤ unit_limit }

@@ -5,9 +5,8 @@ ghost use Rattle.vx_bits.specs.Codes.{fixed, exp_golomb, signed_exp_golomb, code
 use std::alloc::{AllocError, Global};
 use std::marker::Model;
 
-/// Appends the whole bytes of a word of so many bits, for which there is room.
-///
-/// Gives the number of the bits behind them.
+/// Appends the whole bytes of a word of `bits` bits, for which there is room, and returns the bits after them
+/// as a number.
 #[inline(always)]
 fn append(bytes: &mut Vec<u8>, word: u64, bits: u32) -> u8
     requires bits { bits ≤ 64 }
@@ -29,10 +28,10 @@ fn append(bytes: &mut Vec<u8>, word: u64, bits: u32) -> u8
     rest as u8
 }
 
-/// Bits to which codes are appended.
+/// A writer that appends codes to bits.
 ///
-/// It is seen as the list of its bits.
-/// A refused call, other than `close`, leaves the bits as they were.
+/// After an error, the bits are unchanged, except after `close`, which consumes the writer. *Model:* the list
+/// of its bits.
 #[derive(Drop)]
 pub struct BitWriter {
     bytes: Vec<u8>,
@@ -49,7 +48,7 @@ impl Model for BitWriter {
 }
 
 impl BitWriter {
-    /// No bits. Takes no memory yet.
+    /// Returns a writer with no bits. Takes no memory yet.
     #[tactic(auto, using(crate::proofs::Bits::fixed_none))]
     pub fn new(alloc: Global) -> BitWriter
         ensures { result ≡ [] }
@@ -61,7 +60,7 @@ impl BitWriter {
         }
     }
 
-    /// Appends zeros, and then the `n` bits of the value.
+    /// Appends `zeros` zeros, and then the `n` bits of the value.
     #[inline(always)]
     fn put(&mut self, zeros: u32, n: u32, value: u64) -> Result<(), AllocError>
         requires zeros { zeros ≤ 32 }
@@ -79,11 +78,11 @@ impl BitWriter {
         Ok(())
     }
 
-    /// Appends u(n), the n bits of the value, of which there are at most 32.
+    /// Appends u(n): the `n` bits of `value`, at most 32 (H.266 7.2).
     ///
     /// # Errors
     ///
-    /// Where memory runs out.
+    /// `AllocError` if memory runs out.
     #[inline(always)]
     pub fn u(&mut self, n: u32, value: u64) -> Result<(), AllocError>
         requires width { n ≤ 32 }
@@ -94,11 +93,11 @@ impl BitWriter {
         self.put(0, n, value)
     }
 
-    /// Appends ue(v), H.266 clause 9.2, for a value below 2^32 - 1.
+    /// Appends ue(v) for a value below 2^32 - 1 (H.266 clause 9.2).
     ///
     /// # Errors
     ///
-    /// Where memory runs out.
+    /// `AllocError` if memory runs out.
     #[inline(always)]
     pub fn ue(&mut self, value: u32) -> Result<(), AllocError>
         requires { IsCodeNumber value }
@@ -110,11 +109,11 @@ impl BitWriter {
         self.put(zeros, zeros + 1, u64::from(code))
     }
 
-    /// Appends se(v), H.266 clause 9.2, for a value above -2^31.
+    /// Appends se(v) for a value above -2^31 (H.266 clause 9.2).
     ///
     /// # Errors
     ///
-    /// Where memory runs out.
+    /// `AllocError` if memory runs out.
     #[inline(always)]
     pub fn se(&mut self, value: i32) -> Result<(), AllocError>
         requires { IsCodeNumber (code_number value) }
@@ -128,7 +127,7 @@ impl BitWriter {
     ///
     /// # Errors
     ///
-    /// Where memory runs out.
+    /// `AllocError` if memory runs out.
     pub fn align(&mut self) -> Result<(), AllocError>
         ensures ok { OnOk result (self.new ≡ self.old ++ zeros_from (length self.old)) }
         ensures err { OnErr result (self.new ≡ self.old) }
@@ -141,7 +140,7 @@ impl BitWriter {
     ///
     /// # Errors
     ///
-    /// Where memory runs out.
+    /// `AllocError` if memory runs out.
     pub fn align_after_one(&mut self) -> Result<(), AllocError>
         ensures ok { OnOk result (self.new ≡ self.old ++ one_from (length self.old)) }
         ensures err { OnErr result (self.new ≡ self.old) }
@@ -150,11 +149,11 @@ impl BitWriter {
         self.put(0, zeros + 1, 1 << zeros)
     }
 
-    /// Appends a one, and zeros up to the byte boundary, and gives the bytes.
+    /// Appends a one, and zeros up to the byte boundary, and returns the bytes.
     ///
     /// # Errors
     ///
-    /// Where memory runs out; the bits are then given up.
+    /// `AllocError` if memory runs out. The bits are then lost.
     pub fn close(self) -> Result<Vec<u8>, AllocError>
         ensures bits { IfOk result (λ bytes. bits_of bytes.items ≡ self ++ one_from (length self)) }
         ensures end { IfOk result (λ bytes. EndsInNoZero bytes.items) }
@@ -169,14 +168,14 @@ impl BitWriter {
         Ok(bytes)
     }
 
-    /// Whether the bits end at a byte boundary.
+    /// Returns whether the bits end at a byte boundary.
     pub fn is_aligned(&self) -> bool
         ensures { IsTrue result ↔ (length self.now % 8 ≡ 0) }
     {
         self.used == 0
     }
 
-    /// The bytes of bits that end at a byte boundary, as behind a written rbsp_trailing_bits(). Takes no memory.
+    /// Returns the bytes of bits that end at a byte boundary, as after rbsp_trailing_bits(). Takes no memory.
     pub fn into_bytes(self) -> Vec<u8>
         requires { length self % 8 ≡ 0 }
         ensures { bits_of result.items ≡ self }
@@ -190,7 +189,7 @@ impl BitWriter {
     }
 }
 
-/// The number for which ue(v) has the code of se(value), H.266 clause 9.2.
+/// Returns the codeNum of se(value) (H.266 clause 9.2).
 #[inline(always)]
 fn unsigned(value: i32) -> u32
     requires { IsCodeNumber (code_number value) }

@@ -1,20 +1,21 @@
--- What the codes promise: a code is read back as its number, whatever follows it.
+-- Statements of the laws on codes: a code determines its number, whatever follows it.
 use Rattle.std.specs.Prelude.{◌≡◌, ◌==◌, ℕ, ◌+◌, ◌-◌, ◌/◌, ◌%◌, ◌^◌, ◌<◌, ℤ, pos, neg_ℤ, ◌⊎◌, ◌↔◌}
 use Rattle.std.specs.Prelude.{Bool, true, false, if◌then◌else◌, List, ◌∷◌, ◌++◌, length, replicate}
 use Rattle.vx_bits.specs.Codes.{number, fixed, exp_golomb, IsCodeNumber, BeginsWithCode, EndsWithinCode, BeginsTooLong, code_number}
 
--- bits that begin with a code tell its number and what follows it; so no code is a proper prefix of another
+-- Bits that begin with a code determine its number and what follows it; so no code is a proper prefix of another.
 abbrev pub TellsApart : {A : Type 0} → (A → Type 0) → (A → List Bool) → Type 0
 TellsApart {A} valid code =
     (v w : A) (r s : List Bool) → valid v → valid w → code v ++ r ≡ code w ++ s → (v ≡ w) × (r ≡ s)
 
--- n bits are the code u(n) of one number, that of which they are the binary representation
+-- n bits are the code u(n) of exactly one number, the one that they represent in binary.
 abbrev pub IsBinary : Type 0
 IsBinary =
     ((n v : ℕ) → v < 2 ^ n → (length (fixed n v) ≡ n) × (number (fixed n v) ≡ v))
     × ((bits : List Bool) → (number bits < 2 ^ length bits) × (fixed (length bits) (number bits) ≡ bits))
 
--- of n zeros, a one and n bits behind it, codeNum = 2^n - 1 + the number of the n bits (clause 9.2), for each n below 32
+-- For n zeros, a one and n bits after it, codeNum = 2^n - 1 + the number of the n bits (clause 9.2), for each n below
+-- 32.
 abbrev pub IsParsed : Type 0
 IsParsed =
     (bits : List Bool)
@@ -22,19 +23,19 @@ IsParsed =
     → IsCodeNumber (2 ^ length bits - 1 + number bits)
     × (exp_golomb (2 ^ length bits - 1 + number bits) ≡ replicate (length bits) false ++ true ∷ bits)
 
--- the value that se(v) spells by codeNum k: (−1)^(k + 1) · Ceil(k ÷ 2) (clause 9.2.2)
+-- The value that se(v) codes with codeNum k: (−1)^(k + 1) · Ceil(k ÷ 2) (clause 9.2.2).
 abbrev pub mapped : ℕ → ℤ
 mapped k = if k % 2 == 1 then pos ((k + 1) / 2) else neg_ℤ (pos ((k + 1) / 2))
 
--- each codeNum has the value of clause 9.2.2, and no value has another codeNum
+-- Each codeNum has the value of clause 9.2.2, and no value has another codeNum.
 abbrev pub IsMapped : Type 0
 IsMapped = (v : ℤ) (k : ℕ) → (code_number v ≡ k) ↔ (v ≡ mapped k)
 
--- bits begin with a code, end within one, or begin with 32 zeros
+-- Bits begin with a code, end within one, or begin with 32 zeros.
 abbrev pub BeginsInThreeWays : Type 0
 BeginsInThreeWays = (bits : List Bool) → BeginsWithCode bits ⊎ (EndsWithinCode bits ⊎ BeginsTooLong bits)
 
--- and they do only one of these
+-- Only one of these three holds.
 abbrev pub BeginsInOneWay : Type 0
 BeginsInOneWay =
     (bits : List Bool)
