@@ -19,13 +19,13 @@ nal_unit_type unit = slice_index unit 1 / 8
 abbrev pub nuh_temporal_id_plus1 : List ℕ → ℕ
 nuh_temporal_id_plus1 unit = slice_index unit 1 % 8
 
--- a header that can be read: two bytes, the forbidden bit 0, and a temporal id (7.4.2.2)
+-- A header that can be read: two bytes, a forbidden bit of 0, and a temporal id (7.4.2.2).
 pub record HasHeader (unit : List ℕ) : Type 0 where
   pub bytes : 2 ≤ length unit
   pub forbidden : forbidden_zero_bit unit ≡ 0
   pub temporal : 1 ≤ nuh_temporal_id_plus1 unit
 
--- the header's numbers; TemporalId is nuh_temporal_id_plus1 - 1 (7.4.2.2)
+-- The values in the header; TemporalId is nuh_temporal_id_plus1 - 1 (7.4.2.2).
 abbrev pub header_of : List ℕ → NalHeader
 header_of unit = record {
   reserved = nuh_reserved_zero_bit unit == 1;

@@ -1,5 +1,5 @@
--- A reader of units, as its callers see it: by these words, and by the relation `HasRead` between it and the bytes that it
--- took of a source with the units that it gave.
+-- How callers see a reader of units: a few observable values, and the relation `HasRead` between it, the bytes that it took
+-- from a source and the units that it returned.
 use Rattle.std.specs.Prelude.{◌≡◌, ℕ, ◌+◌, ◌-◌, ◌^◌, ◌<◌, ◌≤◌, ◌⊎◌, min, true, false, List, []}
 use Rattle.std.specs.Prelude.{◌∷◌, ◌++◌, Option, Some, None, Result, Ok, Err, length, take, slice_range}
 use Rattle.std.specs.Io.KnownBytes.{Consumes, Keeps, IsAtEnd}
@@ -18,21 +18,21 @@ use Rattle.vx_annexb.specs.declared.unit_reader.TakeFault.TheVariants.{Refused, 
 use Rattle.vx_annexb.specs.ByteStream.{source_limit, UnitPlace, unit_bytes, IsStream}
 use Rattle.vx_annexb.specs.Held.{Held, Stands, held, lent, is_all, place_of}
 
--- a reader: its splitter, how many bytes it took, and why it reads no more
+-- A reader: its splitter, how many bytes it took, and why it reads no more.
 pub record Reading : Type 0 where
   pub splitter : Held
   pub taken : ℕ
   pub closed : Option Closed
 
--- it may read on
+-- The reader may read on.
 abbrev pub IsOpen : Reading → Type 0
 IsOpen r = r.closed ≡ None
 
--- the bytes that it holds, the room for a read aside
+-- The bound on the bytes that it holds, apart from the room for a read.
 abbrev pub HoldsFew : Reading → Type 0
 HoldsFew r = held r.splitter ≤ unit_limit + 2 + 65536
 
--- Why it reads no more, by the n bytes that it took: they are all there are; or one more than the limit, which is not
+-- Why it reads no more, by the n bytes that it took: they are all there are; or they are one more than the limit, which is not
 -- looked at; or a read failed.
 abbrev pub ClosesAt : Option Closed → Held → ℕ → Type 0
 ClosesAt None h n = (is_all h ≡ false) × (n ≤ 2 ^ 40)
@@ -40,14 +40,14 @@ ClosesAt (Some End) h n = (is_all h ≡ true) × (n ≤ 2 ^ 40)
 ClosesAt (Some TooLong) h n = (is_all h ≡ false) × (n ≡ 2 ^ 40 + 1)
 ClosesAt (Some Failed) h n = (is_all h ≡ false) × (n ≤ 2 ^ 40)
 
--- g are the bytes that it took, and these are the units that it gave
+-- g are the bytes that it took, and these are the units that it returned.
 pub record HasRead (r : Reading) (g : List ℕ) (units : List UnitPlace) : Type 0 where
   pub taken : length g ≡ r.taken
   pub closes : ClosesAt r.closed r.splitter r.taken
   pub stands : Stands r.splitter (take source_limit g) units
 
--- What was read is refused for x behind these units: a rule is broken, or none is in as many bytes as the limit, and the
--- source has more.
+-- What was read is refused for x after these units: a rule is broken, or no rule is broken within the limit and the source has
+-- more bytes.
 abbrev pub IsRefusedBy : List ℕ → List UnitPlace → Reading → Refusal → Type 0
 IsRefusedBy g units r x =
     IsStream (take source_limit g) (is_all r.splitter) units (Some x)
@@ -71,12 +71,12 @@ Reads g units new left left' faults faults' (Err Memory) = (left' ≡ left) × (
 Reads g units new left left' faults faults' (Err SourceFailed) =
     Keeps left left' × Rose faults faults' × HasRead new g units × (new.closed ≡ Some Failed)
 
--- how many of n bytes are taken in place of a read behind those that were taken: at most as many as a read asks for, and of all at most
--- one more than the limit
+-- How many of n bytes are taken in place of a read, after those that were taken before: at most as many as a read asks for, and
+-- in all at most one more than the limit.
 abbrev pub fed_at_once : (taken n : ℕ) → ℕ
 fed_at_once taken n = min (min n 65536) (2 ^ 40 + 1 - taken)
 
--- The last read was needed: its piece of at most 65,536 bytes came behind bytes in which no unit was seen but the first of
+-- The last read was needed: its piece of at most 65,536 bytes came after bytes in which no unit was seen except the first of
 -- these.
 pub record LastWasNeeded (g : List ℕ) (units : List UnitPlace) : Type 0 where
   pub before : List ℕ
@@ -89,14 +89,14 @@ pub record LastWasNeeded (g : List ℕ) (units : List UnitPlace) : Type 0 where
   pub split : units ≡ given ++ later
   pub seen : IsStream (take source_limit before) false given None
 
--- Of a source, behind the bytes g, a piece was taken by reads that were needed, and these are the units given by then.
+-- After the bytes g, a piece of the source was taken by reads that were needed, and these are the units returned by then.
 pub record TakesTo (g : List ℕ) (units : List UnitPlace) (new : Reading) (left left' : Option (List ℕ)) : Type 0 where
   pub piece : List ℕ
   pub consumed : Consumes left left' piece
   pub read : HasRead new (g ++ piece) units
   pub needed : LastWasNeeded (g ++ piece) units
 
--- The next unit of a source with these bytes left and this count of faults, before and after it.
+-- The next unit of a source with these bytes left and this count of faults, before and after the call.
 abbrev pub Takes : List ℕ → List UnitPlace → Reading → Option (List ℕ) → Option (List ℕ) → ℕ → ℕ → Result (Option Span) TakeFault → Type 0
 Takes g units new left left' faults faults' (Ok (Some span)) =
     (faults' ≡ faults)

@@ -10,15 +10,16 @@ use std::alloc::{AllocError, Global};
 /// emulation_prevention_three_byte
 pub(crate) const EMULATION: u8 = 3;
 
-/// The place of the first byte that emulation prevention rules out: 00, 01 or 02 behind 00 00, or more than 03
-/// behind 00 00 03. It takes no memory.
+/// Returns the place of the first byte that violates emulation prevention, or `None`. Takes no memory.
+///
+/// Such a byte is 00, 01 or 02 after 00 00, or more than 03 after 00 00 03.
 pub fn emulation_fault(unit: &[u8]) -> Option<usize>
     ensures { MatchOption result ((k : ℕ) → ¬ BreaksRule unit.now k) (IsFirstFrom (BreaksRule unit.now) 0) }
 {
     fault_from(unit, 0)
 }
 
-/// The same, where no 00 00 and a byte of at most 03 begins before `from`.
+/// Returns what [`emulation_fault`] does, if no 00 00 and a byte of at most 03 begins before `from`.
 pub(crate) fn fault_from(unit: &[u8], from: usize) -> Option<usize>
     requires within { from ≤ length unit.now }
     requires clear { (k : ℕ) → k < from → ¬ IsMark EMULATION unit.now k }
@@ -37,7 +38,12 @@ pub(crate) fn fault_from(unit: &[u8], from: usize) -> Option<usize>
     None
 }
 
-/// A unit without its emulation bytes.
+/// Returns a unit without its emulation prevention bytes. Requires that no byte of `unit` violates emulation
+/// prevention.
+///
+/// # Errors
+///
+/// `AllocError` if memory runs out.
 pub fn unescape(alloc: Global, unit: &[u8]) -> Result<Vec<u8>, AllocError>
     requires { (k : ℕ) → ¬ BreaksRule unit.now k }
     ensures value { IfOk result (λ bytes. bytes.items ≡ unescaped unit.now) }
@@ -54,13 +60,17 @@ pub fn unescape(alloc: Global, unit: &[u8]) -> Result<Vec<u8>, AllocError>
     Ok(bytes)
 }
 
-/// Bytes with the emulation bytes that they need, for bytes that don't end in 00.
+/// Returns `bytes` with the emulation prevention bytes that they need. Requires that `bytes` doesn't end in 00.
+///
+/// # Errors
+///
+/// `AllocError` if memory runs out.
 pub fn escape(alloc: Global, bytes: &[u8]) -> Result<Vec<u8>, AllocError>
     requires { EndsInNoZero bytes.now }
     ensures { IfOk result (λ unit. IsEscaped bytes.now unit.items) }
 {
     let mut unit = Vec::with_capacity(alloc, bytes.len())?;
-    // The zeros at the end of `unit`.
+    // The number of zeros at the end of `unit`.
     let mut zeros = 0u8;
     for byte in bytes {
         if zeros == 2 && *byte <= EMULATION {
@@ -73,7 +83,8 @@ pub fn escape(alloc: Global, bytes: &[u8]) -> Result<Vec<u8>, AllocError>
     Ok(unit)
 }
 
-/// The place in a unit just behind its n-th byte that is no emulation byte. It takes no memory.
+/// Returns the first place in `unit` before which there are `n` bytes that are no emulation prevention bytes.
+/// Takes no memory.
 pub fn unit_place(unit: &[u8], n: usize) -> usize
     requires { n ≤ length (unescaped unit.now) }
     ensures within { result ≤ length unit.now }
@@ -90,7 +101,7 @@ pub fn unit_place(unit: &[u8], n: usize) -> usize
     place
 }
 
-/// Whether the byte at a place is an emulation byte.
+/// Returns whether the byte at `place` is an emulation prevention byte.
 fn stands_emulation(unit: &[u8], place: usize) -> bool
     requires { place < length unit.now }
     ensures { result ≡ is_emulation unit.now place }

@@ -1,8 +1,8 @@
-//! The header of a NAL unit.
+//! The header of a NAL unit (H.266 7.3.1.2).
 ghost use Rattle.std.specs.Prelude.{◌≡◌, MatchOption};
 ghost use Rattle.vx_annexb.specs.NalUnit.{HasHeader, header_of};
 
-/// The two bytes that begin each NAL unit (H.266 7.3.1.2).
+/// A NAL unit header: the values of the first two bytes of a unit (H.266 7.3.1.2).
 #[derive(Clone, Copy, Debug, PartialEq, Eq)]
 pub struct NalHeader {
     /// nuh_reserved_zero_bit
@@ -15,8 +15,9 @@ pub struct NalHeader {
     pub temporal_id: u8,
 }
 
-/// The header of a NAL unit. None where there are fewer than two bytes, the forbidden bit is 1 or
-/// nuh_temporal_id_plus1 is 0 (H.266 7.4.2.2).
+/// Returns the header of a NAL unit, or `None` if it can't be read.
+///
+/// That is so for fewer than two bytes, a forbidden bit of 1, and a nuh_temporal_id_plus1 of 0 (H.266 7.4.2.2).
 pub fn read_header(unit: &[u8]) -> Option<NalHeader>
     ensures { MatchOption result (¬ HasHeader unit.now) (λ header. HasHeader unit.now × (header ≡ header_of unit.now)) }
 {

@@ -1,92 +1,101 @@
-//! Laws of the byte stream: functions that do nothing, each with a law as its contract.
+//! Laws of the byte stream. A law is a function without a body whose contract states it.
 ghost use Rattle.vx_annexb.specs.Laws.{StreamIsUnique, StreamExists, StreamGoesOn, UnitsCanStand, StreamIsAnnexB, AnnexBIsStream, WrittenIsAnnexB, WrittenIsStream, EscapedIsUnique, EscapedExists, EscapedJoins, EscapedSplits, UnescapedJoins, EscapedIsShort, EscapedIsInverse, StrayEndsStream, SeenStays, LaterUnseen};
 
-/// The bytes determine their units and the ending behind them.
+/// If bytes have two lists of units with their endings, then these are the same.
 pub fn stream_is_unique()
     ensures { StreamIsUnique }
 {}
 
-/// Every list of bytes has units and an ending.
+/// If there are bytes, then they have units and an ending.
 pub fn stream_exists()
     ensures { StreamExists }
 {}
 
-/// Bytes that no rule refuses are zeros, and then for each unit 00 00 01, the unit and zeros (H.266 B.2).
+/// If no rule refuses bytes, then they are zeros, and then for each unit 00 00 01, the unit and zeros (H.266
+/// B.2).
 pub fn stream_is_annex_b()
     ensures { StreamIsAnnexB }
 {}
 
-/// Zeros, and then for each unit 00 00 01, the unit and zeros, have these units and no refusal (H.266 B.2).
+/// If bytes are zeros, and then for each unit 00 00 01, the unit and zeros, then they have these units and no
+/// refusal, provided that the units can stand in a byte stream (H.266 B.2).
 pub fn annex_b_is_stream()
     ensures { AnnexBIsStream }
 {}
 
-/// Each unit before the first refusal doesn't end in 00 and holds no start code, and no rule refuses it.
+/// If a unit comes before the first refusal, then it doesn't end in 00, contains no start code, and no rule
+/// refuses it.
 pub fn units_can_stand()
     ensures { UnitsCanStand }
 {}
 
-/// Units that are written one behind the other, each behind 00 00 00 01, are their byte stream (H.266 B.2).
+/// If units are written one after another, each after 00 00 00 01, then the bytes are the byte stream of these
+/// units (H.266 B.2).
 pub fn written_is_annex_b()
     ensures { WrittenIsAnnexB }
 {}
 
-/// Written units that no rule refuses and that don't end in 00 are found again in what is written, and no refusal.
+/// If no rule refuses the written units and they don't end in 00, then what is written has these units and no
+/// refusal.
 pub fn written_is_stream()
     ensures { WrittenIsStream }
 {}
 
-/// Units whose end is seen, and a refusal, stay however the bytes go on.
+/// If bytes go on, then the units whose end was seen remain, and so does a refusal.
 pub fn stream_goes_on()
     ensures { StreamGoesOn }
 {}
 
-/// The escaped form of bytes is one: what a unit says without its emulation bytes determines the unit.
+/// If two units are the escaped form of the same bytes, then they are equal.
 pub fn escaped_is_unique()
     ensures { EscapedIsUnique }
 {}
 
-/// Bytes that don't end in 00 have an escaped form.
+/// If bytes don't end in 00, then they have an escaped form.
 pub fn escaped_exists()
     ensures { EscapedExists }
 {}
 
-/// Behind bytes that don't end in 00 the escaped form of any others stands as it is: so a payload is passed on.
+/// If bytes don't end in 00, then the escaped form of any others can be appended to theirs unchanged, as for a
+/// payload.
 pub fn escaped_joins()
     ensures { EscapedJoins }
 {}
 
-/// The place behind bytes that don't end in 00 splits an escaped form into theirs and that of the rest.
+/// If the first bytes of an RBSP don't end in 00, then the place after them splits the escaped form into theirs
+/// and that of the rest.
 pub fn escaped_splits()
     ensures { EscapedSplits }
 {}
 
-/// Behind the escaped form of bytes that don't end in 00 any bytes are unescaped by themselves.
+/// If bytes that don't end in 00 are escaped, then any bytes after them are unescaped independently of them.
 pub fn unescaped_joins()
     ensures { UnescapedJoins }
 {}
 
-/// Escaping adds at most a byte to two.
+/// If bytes are escaped, then at most one byte is added to each two.
 pub fn escaped_is_short()
     ensures { EscapedIsShort }
 {}
 
-/// Unescaping and escaping undo one another.
+/// If bytes are escaped and unescaped, or unescaped and escaped, then the result is the same bytes.
 pub fn escaped_is_inverse()
     ensures { EscapedIsInverse }
 {}
 
-/// Before a byte that is no start code the units are those of the bytes before it, which no rule refuses.
+/// If a byte is no start code, then the units before it are those of the bytes before it, and no rule refuses
+/// these.
 pub fn stray_ends_stream()
     ensures { StrayEndsStream }
 {}
 
-/// Units whose end is seen keep their places and their bytes however the bytes go on.
+/// If bytes go on, then units whose end was seen keep their places and their bytes.
 pub fn seen_stays()
     ensures { SeenStays }
 {}
 
-/// Where no further unit's end is seen in the first bytes, the next unit ends at most two bytes before they do.
+/// If no further unit's end is seen in the first bytes, then the next unit ends at most two bytes before they
+/// do.
 pub fn later_unseen()
     ensures { LaterUnseen }
 {}

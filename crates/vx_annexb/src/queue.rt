@@ -1,21 +1,21 @@
-//! A queue of bytes in one buffer, to which a source is read in place.
+//! A queue of bytes in one buffer, into which a source is read in place.
 ghost use Rattle.std.specs.Prelude.{◌≡◌, ◌+◌, ◌≤◌, take, vec_len, IsOk, OnOk, OnErr};
 
 use std::alloc::{AllocError, Global};
 use std::marker::Model;
 use vx_io::{Source, SourceFailed};
 
-/// The bytes held are moved to the front of the buffer only where this many times as many were passed, so that few are
-/// moved in all.
+/// The bytes held are moved to the start of the buffer only if this many times as many have been passed, so
+/// that few are moved in all.
 const PASSED_TO_MOVE: usize = 4;
 
-/// Bytes of which the first are passed, and behind which others are put.
+/// A queue of bytes: the first ones have been passed, and new ones are appended.
 #[derive(Drop)]
 pub(crate) struct ByteQueue {
     buffer: Vec<u8>,
-    // The bytes held stand from here on in the buffer; those before are passed.
+    // The place in the buffer of the first byte held; the bytes before it have been passed.
     first: usize,
-    // They stand up to here; behind them there is room.
+    // The place after the last byte held; from there on there is room.
     last: usize,
 }
 
@@ -33,7 +33,7 @@ impl Model for ByteQueue {
     ghost invariant = { λ a. (a.first ≤ a.last) × (a.last ≤ vec_len a.buffer) };
 }
 
-/// Lengthens a buffer where fewer than n bytes stand behind this place. A refused call leaves it as it is.
+/// Lengthens a buffer if fewer than `n` bytes follow `place`. After an error it is unchanged.
 fn lengthen(buffer: &mut Vec<u8>, place: usize, n: usize) -> Result<(), AllocError>
     requires { place ≤ vec_len buffer.old }
     ensures begins { take (vec_len buffer.old) buffer.new.items ≡ buffer.old.items }
@@ -57,7 +57,7 @@ impl ByteQueue {
     ghost use Rattle.vx_io.specs.Faults.{CountsFault};
     ghost use Rattle.vx_annexb.specs.inner.Queue.{Receives};
 
-    /// A queue that holds no bytes and has no room.
+    /// Returns an empty queue without room.
     pub(crate) fn new(alloc: Global) -> ByteQueue
         ensures { result.items ≡ [] }
     {
@@ -68,21 +68,21 @@ impl ByteQueue {
         }
     }
 
-    /// How many bytes it holds.
+    /// Returns the number of bytes held.
     pub(crate) fn len(&self) -> usize
         ensures { result ≡ length self.now.items }
     {
         self.last - self.first
     }
 
-    /// The bytes that it holds.
+    /// Returns the bytes held.
     pub(crate) fn as_slice(&self) -> &[u8]
         ensures { result.now ≡ self.now.items }
     {
         &self.buffer[self.first..self.last]
     }
 
-    /// Passes the first k bytes and makes room for n behind the others. A refused call changes nothing.
+    /// Passes the first `k` bytes, and makes room for `n` after the others. After an error nothing has changed.
     pub(crate) fn shift(&mut self, k: usize, n: usize) -> Result<(), AllocError>
         requires { k ≤ length self.old.items }
         ensures items { OnOk result (self.new.items ≡ drop k self.old.items) }
@@ -104,7 +104,7 @@ impl ByteQueue {
         Ok(())
     }
 
-    /// Puts a piece behind the bytes held, where there is room for it.
+    /// Appends a piece for which there is room.
     pub(crate) fn extend(&mut self, piece: &[u8])
         requires { length piece.now ≤ self.old.room }
         ensures { self.new.items ≡ self.old.items ++ piece.now }
@@ -114,8 +114,8 @@ impl ByteQueue {
         self.last = end;
     }
 
-    /// Reads at most `most` bytes of a source to the room behind the bytes held, puts the first `limit` of them behind those,
-    /// and answers how many came.
+    /// Reads at most `most` bytes of a source into the room, appends the first `limit` of them to the queue,
+    /// and returns the number of bytes read.
     pub(crate) fn read_from(
         &mut self,
         source: &mut dyn Source,

@@ -9,8 +9,9 @@ use vx_bits::Refusal;
 use vx_bits::limits::UNIT_LIMIT;
 use vx_bits::rules::{BAD_EMULATION, BAD_HEADER, LONG_UNIT};
 
-/// Why the unit that begins at `place` of the stream is refused, where no 00 00 and a byte of at most 03 begins
-/// among its first `clear` bytes.
+/// Returns why the unit that begins at `place` of the stream is refused, or `None`.
+///
+/// Requires that no 00 00 and a byte of at most 03 begins among its first `clear` bytes.
 pub(crate) fn refusal_of(unit: &[u8], clear: usize, place: u64) -> Option<Refusal>
     requires fits { place + length unit.now < 2 ^ 64 }
     requires within { clear ≤ length unit.now }

@@ -1,16 +1,17 @@
-//! Searches of a slice for zeros.
+//! Searches for zeros in a slice.
 ghost use Rattle.std.specs.Prelude.{◌≢◌, ℕ, ◌+◌, ◌<◌, ◌≤◌, length, max, slice_index, MatchOption};
 ghost use Rattle.vx_annexb.specs.Places.{AreZeros, IsMark, IsFirstFrom};
 
 use memchr::memmem;
 
-/// Two zeros at fewer bytes from where they are sought are near: more may follow, and steps are then faster than a search.
+/// Two zeros are near if they are fewer bytes away than this. More may then follow, and single steps are faster
+/// than a search.
 const NEAR: usize = 64;
 
-/// What a mark begins with.
+/// The first two bytes of a mark.
 const ZEROS: [u8; 2] = [0, 0];
 
-/// The first place from `from` on whose byte is no zero, or the end.
+/// Returns the first place from `from` on whose byte isn't 0, or the end.
 pub(crate) fn skip_zeros(bytes: &[u8], from: usize) -> usize
     requires { from ≤ length bytes.now }
     ensures zeros { AreZeros bytes.now from result }
@@ -23,7 +24,8 @@ pub(crate) fn skip_zeros(bytes: &[u8], from: usize) -> usize
     at
 }
 
-/// The first 00 00 from `from` on. It is a call of its own, so that the search where marks are dense stays small.
+/// Returns the place of the first 00 00 from `from` on. It isn't inlined, so that the search stays small where
+/// marks are dense.
 #[inline(never)]
 fn next_zeros(bytes: &[u8], from: usize) -> Option<usize>
     requires { from ≤ length bytes.now }
@@ -35,7 +37,7 @@ fn next_zeros(bytes: &[u8], from: usize) -> Option<usize>
     Some(from + skip)
 }
 
-/// Steps from `from` to a mark below `stop`, or past `stop` where none stands there: at most three bytes a step.
+/// Steps from `from` to a mark below `stop`, or past `stop` if there is none, at most three bytes a step.
 fn step_to_mark(bytes: &[u8], from: usize, stop: usize, most: u8) -> usize
     requires order { from ≤ stop }
     requires within { stop ≤ length bytes.now }
@@ -57,7 +59,7 @@ fn step_to_mark(bytes: &[u8], from: usize, stop: usize, most: u8) -> usize
     at.max(stop)
 }
 
-/// The first place from `from` on at which 00 00 and a byte of at most `most` stand.
+/// Returns the first place from `from` on with 00 00 and a byte of at most `most`.
 pub(crate) fn find_mark(bytes: &[u8], from: usize, most: u8) -> Option<usize>
     requires { from ≤ length bytes.now }
     ensures { MatchOption result
@@ -78,8 +80,8 @@ pub(crate) fn find_mark(bytes: &[u8], from: usize, most: u8) -> Option<usize>
     None
 }
 
-/// The first place from `from` on at which 00 00 and a byte of at most `most` stand, or from which fewer than three
-/// bytes are there to tell.
+/// Returns the first place from `from` on with 00 00 and a byte of at most `most`, or from which there are too
+/// few bytes to decide.
 pub(crate) fn pass_to_mark(bytes: &[u8], from: usize, most: u8) -> usize
     requires { from ≤ length bytes.now }
     ensures order { from ≤ result }
@@ -93,7 +95,7 @@ pub(crate) fn pass_to_mark(bytes: &[u8], from: usize, most: u8) -> usize
     }
 }
 
-/// The first place from `from` on behind which the bytes are zeros to their end.
+/// Returns the first place from `from` on after which all bytes to the end are zeros.
 pub(crate) fn trim_zeros(bytes: &[u8], from: usize) -> usize
     requires { from ≤ length bytes.now }
     ensures { IsFirstFrom (λ k. AreZeros bytes.now k (length bytes.now)) from result }

@@ -1,11 +1,11 @@
-//! Where a unit stands in what a splitter keeps.
+//! The place of a unit in the bytes that a splitter holds.
 
-/// A NAL unit among the bytes that a `Splitter` keeps.
+/// A NAL unit among the bytes that a [`Splitter`](crate::Splitter) holds.
 #[derive(Clone, Copy, Debug, PartialEq, Eq)]
 pub struct Span {
-    /// The place of its first byte in what is kept.
+    /// The place of its first byte in the bytes held.
     pub start: usize,
-    /// The place behind its last byte in what is kept.
+    /// The place after its last byte in the bytes held.
     pub end: usize,
     /// The place of its first byte in all bytes fed.
     pub offset: u64,

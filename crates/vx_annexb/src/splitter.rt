@@ -1,4 +1,4 @@
-//! A byte stream that is taken in pieces, and its NAL units, given one at a time.
+//! A byte stream that arrives in pieces, and its NAL units, one at a time.
 
 use crate::Span;
 use crate::emulation::{EMULATION, emulation_fault};
@@ -12,24 +12,25 @@ use vx_bits::limits::UNIT_LIMIT;
 use vx_bits::rules::{BAD_EMULATION, NOT_A_START_CODE};
 use vx_io::{Source, SourceFailed};
 
-/// Finds the NAL units of a byte stream that comes in pieces.
+/// A byte stream that is fed in pieces, from which NAL units are taken one at a time.
 ///
-/// It holds the bytes from the unit that has begun on, and gives up what lies before when it makes room for more. Of a
-/// unit of more than 2^23 bytes it holds only the last five, and what the unit would be refused for so far.
+/// It holds the bytes from the start of the unit that has begun; `make_room` drops those before. Of a unit of
+/// more than 2^23 bytes it holds only the last five, and the refusal that it would get so far.
 #[derive(Drop)]
 pub struct Splitter {
-    // The bytes kept, and the place of the first of them.
+    // The bytes held, and the place of the first of them in the stream.
     kept: ByteQueue,
     base: u64,
-    // The place behind the last unit given.
+    // The place after the last unit returned.
     from: u64,
-    // Where the next unit begins, once its start code was found.
+    // The place where the next unit begins, once its start code was found.
     start: Option<u64>,
-    // The place up to which the next unit has been sought.
+    // The place up to which the next unit has been searched for.
     sought: u64,
-    // The place up to which no 00 00 and a byte of at most 03 begins in the unit that has begun, while it is kept whole.
+    // The place up to which no 00 00 and a byte of at most 03 begins in the unit that has begun, while it is
+    // held whole.
     clear: u64,
-    // What the unit that has begun would be refused for, once it is too long and no longer kept whole.
+    // The refusal of the unit that has begun, once it is too long and no longer held whole.
     doomed: Option<Refusal>,
     all: bool,
     refused: Option<Refusal>,
@@ -68,7 +69,7 @@ impl Model for Splitter {
     }) };
 }
 
-/// From where on bytes are kept as room is made, and what is then known of the unit that has begun.
+/// The place from which bytes are held after room is made, and what is then known of the unit that has begun.
 #[derive(Clone, Copy)]
 struct Cut {
     base: u64,
@@ -87,7 +88,7 @@ impl Splitter {
     ghost use Rattle.vx_annexb.specs.inner.Order.{HasStarted, IsCut};
     ghost use Rattle.vx_annexb.specs.inner.Queue.{Receives};
 
-    /// A splitter that was fed nothing.
+    /// Returns a splitter that was fed nothing.
     pub fn new(alloc: Global) -> Splitter
         ensures fed { fed result ≡ 0 }
         ensures held { held result ≡ 0 }
@@ -107,8 +108,12 @@ impl Splitter {
         }
     }
 
-    /// Makes room for n more bytes; spans given before are given up, and of the bytes held those that no unit to come
-    /// needs. A refused call changes nothing.
+    /// Makes room for `n` more bytes, and drops the bytes that no later unit needs. Spans returned before
+    /// become invalid.
+    ///
+    /// # Errors
+    ///
+    /// `AllocError` if memory runs out. Nothing has changed then.
     pub fn make_room(&mut self, n: usize) -> Result<(), AllocError>
         ensures stands { OnOk result ((g : List ℕ) (units : List UnitPlace) → Stands self.old g units → Stands self.new g units) }
         ensures room { OnOk result (n ≤ has_room self.new) }
@@ -128,7 +133,12 @@ impl Splitter {
         Ok(())
     }
 
-    /// Takes the next bytes of the stream, behind `make_room`. A refused call changes nothing.
+    /// Appends the next bytes of the stream. Takes memory only if `make_room` wasn't called for as many bytes
+    /// before.
+    ///
+    /// # Errors
+    ///
+    /// `AllocError` if memory runs out. Nothing has changed then.
     pub fn feed(&mut self, piece: &[u8]) -> Result<(), AllocError>
         requires going { is_all self.old ≡ false }
         requires fits { fed self.old + length piece.now < 2 ^ 64 }
@@ -146,8 +156,8 @@ impl Splitter {
         Ok(())
     }
 
-    /// Reads at most `most` bytes of a source, for which there is room, takes the first `limit` of them as the next bytes of
-    /// the stream, and answers how many came. A failed read changes nothing.
+    /// Reads at most `most` bytes of a source, for which there is room, appends the first `limit` of them to
+    /// the stream, and returns the number of bytes read. A failed read changes nothing.
     pub(crate) fn read_from(
         &mut self,
         source: &mut dyn Source,
@@ -172,7 +182,7 @@ impl Splitter {
         self.kept.read_from(source, most, limit)
     }
 
-    /// From where on bytes are kept when room is made.
+    /// Returns the place from which bytes are held after room is made.
     fn cut(&self) -> Cut
         ensures cut { IsCut self.now result.base result.doomed }
         ensures held { IsSought self.now → fed self.now ≤ result.base + (unit_limit + 2) }
@@ -201,7 +211,7 @@ impl Splitter {
         }
     }
 
-    /// Why the unit that has begun at `start` is refused, if it ends at `end`.
+    /// Returns why the unit that has begun at `start` is refused if it ends at `end`.
     fn refusal_to(&self, start: u64, end: u64) -> Option<Refusal>
         requires begun { self.now.start ≡ Some start }
         requires order { start ≤ end }
@@ -235,7 +245,7 @@ impl Splitter {
         }
     }
 
-    /// Says that the bytes fed are all there are.
+    /// Ends the stream: the bytes fed so far are all there are.
     pub fn finish(&mut self)
         ensures stands { (g : List ℕ) (units : List UnitPlace) → Stands self.old g units → Stands self.new g units }
         ensures lent { lent self.new ≡ lent self.old }
@@ -247,8 +257,14 @@ impl Splitter {
         self.all = true;
     }
 
-    /// The next unit of the stream, in order, or why it is refused; the refusal is given again from then on.
-    /// None where neither a further unit's end nor a byte that is no start code is in the bytes fed.
+    /// Returns the next unit of the stream, or `None` if more bytes are needed or the stream has ended.
+    ///
+    /// More bytes are needed if those fed contain neither a further unit's end nor a stray byte, which is no
+    /// part of a start code.
+    ///
+    /// # Errors
+    ///
+    /// The refusal of the unit, or of a stray byte. Every later call returns it again.
     pub fn next(&mut self) -> Result<Option<Span>, Refusal>
         ensures answer { (g : List ℕ) (units : List UnitPlace) → Stands self.old g units → Answers g units self.new result }
         ensures readable { IfOk result (λ given. IfSome given (IsReadable self.new)) }
@@ -272,7 +288,7 @@ impl Splitter {
         self.give(start, end)
     }
 
-    /// Seeks the first byte of the next unit.
+    /// Searches for the first byte of the next unit.
     fn seek_start(&mut self) -> Result<Option<u64>, Refusal>
         requires { self.old.refused ≡ None }
         ensures answer { (g : List ℕ) (units : List UnitPlace) → Stands self.old g units → HasStarted g units self.new result }
@@ -306,8 +322,8 @@ impl Splitter {
         Ok(self.start)
     }
 
-    /// Passes the bytes of the unit that has begun before its first 00 00 and a byte of at most 03. Where that was
-    /// met before, `clear` stays behind `sought`.
+    /// Passes the bytes of the unit that has begun up to its first 00 00 and a byte of at most 03. If that
+    /// place was found before, `clear` stays before `sought`.
     fn pass_clear(&mut self)
         requires begun { IsSome self.old.start }
         requires open { self.old.refused ≡ None }
@@ -324,7 +340,7 @@ impl Splitter {
         }
     }
 
-    /// Seeks the place behind the last byte of the unit that begins at `start`.
+    /// Searches for the place after the last byte of the unit that begins at `start`.
     fn seek_end(&mut self, start: u64) -> Option<u64>
         requires begun { self.old.start ≡ Some start }
         requires open { self.old.refused ≡ None }
@@ -351,7 +367,7 @@ impl Splitter {
         Some(self.base + end as u64)
     }
 
-    /// Gives the unit from `start` to `end`, or refuses it.
+    /// Returns the unit from `start` to `end`, or its refusal.
     fn give(&mut self, start: u64, end: u64) -> Result<Option<Span>, Refusal>
         requires begun { self.old.start ≡ Some start }
         requires open { self.old.refused ≡ None }
@@ -379,7 +395,7 @@ impl Splitter {
         }))
     }
 
-    /// The bytes of a span that can be read.
+    /// Returns the bytes of a span. Requires that the span can be read: no call that moves bytes came after it.
     pub fn bytes(&self, span: Span) -> &[u8]
         requires { IsReadable self.now span }
         ensures { result.now ≡ slice_range (lent self.now) span.start span.end }

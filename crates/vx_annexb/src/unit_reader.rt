@@ -1,4 +1,4 @@
-//! The NAL units of a source, given one at a time while the source is read.
+//! The NAL units of a source, returned one at a time while the source is read.
 ghost use Rattle.std.specs.Prelude.{◌≡◌, ◌+◌, ◌-◌, ◌^◌, ◌<◌, ◌≤◌, ℕ, List, take, min, false, length, IfOk, OnOk, OnErr, Some, None, Err};
 ghost use Rattle.std.specs.Io.KnownBytes.{IsAtEnd};
 ghost use Rattle.vx_bits.specs.Limits.{unit_limit};
@@ -19,27 +19,27 @@ use vx_bits::limits::SOURCE_LIMIT;
 use vx_bits::rules::LONG_SOURCE;
 use vx_io::Source;
 
-/// How many bytes a read asks for.
+/// The number of bytes that a read asks for.
 const READ_LEN: usize = 65_536;
 
-/// The refusal of a source that has more.
+/// The refusal of a source that is longer than the limit.
 const SOURCE_TOO_LONG: Refusal = Refusal::Limit { code: LONG_SOURCE };
 
-/// Why a reader reads no more of its source.
+/// The reason why a reader reads no more of its source.
 #[derive(Clone, Copy, Debug, PartialEq, Eq)]
 pub enum Closed {
-    /// The source has given all its bytes.
+    /// The source has ended.
     End,
-    /// It has more than the limit.
+    /// The source has more bytes than the limit.
     TooLong,
-    /// A read of it failed.
+    /// A read of the source failed.
     Failed,
 }
 
-/// Why a source wasn't read.
+/// The error of a call that reads a source.
 #[derive(Clone, Copy, Debug, PartialEq, Eq, Error)]
 pub enum ReadFault {
-    /// Memory ran out; nothing was taken of the source, and it may be read again.
+    /// Memory ran out. Nothing was taken from the source, and it may be read again.
     #[error("out of memory")]
     Memory,
     /// A read of the source failed.
@@ -47,13 +47,13 @@ pub enum ReadFault {
     SourceFailed,
 }
 
-/// Why a reader gives no unit.
+/// The error of a call that takes a unit.
 #[derive(Clone, Copy, Debug, PartialEq, Eq, Error)]
 pub enum TakeFault {
-    /// The source is refused; so it is from then on.
+    /// The source is refused, and every later call returns the same refusal.
     #[error("refused")]
     Refused(Refusal),
-    /// Memory ran out; nothing that was taken of the source is lost, and it may be read again.
+    /// Memory ran out. Nothing that was taken from the source is lost, and the call may be repeated.
     #[error("out of memory")]
     Memory,
     /// A read of the source failed.
@@ -80,10 +80,10 @@ impl From<ReadFault> for TakeFault {
     }
 }
 
-/// Reads the NAL units of a source (H.266 Annex B), and holds at most 2^23 + 65,538 of its bytes.
+/// A reader of the NAL units of a source (H.266 Annex B). It holds at most 2^23 + 65,538 bytes of the source.
 ///
-/// It takes at most 2^40 bytes of the source and one more, and gives the units whose end is seen in 2^40. Each call is given
-/// the source, which is to be the same one.
+/// Reads at most 2^40 + 1 bytes, and returns the units whose end is seen within the first 2^40; a longer source
+/// is refused (L3). Pass the same source to every call.
 #[derive(Drop)]
 pub struct UnitReader {
     splitter: Splitter,
@@ -110,15 +110,15 @@ impl Model for UnitReader {
     }) };
 }
 
-/// How many bytes came of a read, and whether it was the last one.
+/// The number of bytes that a read returned, and whether the read was the last one.
 #[derive(Clone, Copy)]
 struct Came {
     count: u64,
     closed: Option<Closed>,
 }
 
-/// Why no more is read of a source that gave `count` bytes behind `taken`: none came, which is its end, or more than the
-/// limit lets see.
+/// Returns why no more is read of a source that returned `count` bytes after the first `taken`: it returned
+/// none, which is its end, or more than the limit.
 fn close(splitter: &mut Splitter, count: usize, taken: u64) -> Option<Closed>
     requires going { is_all splitter.old ≡ false }
     requires within { taken ≤ SOURCE_LIMIT }
@@ -142,8 +142,8 @@ fn close(splitter: &mut Splitter, count: usize, taken: u64) -> Option<Closed>
     None
 }
 
-/// Reads one piece of a source of which `taken` bytes came before, behind room that is made for it, and feeds what the limit
-/// lets see of it.
+/// Reads one piece of a source of which `taken` bytes came before, and feeds the part of it that is within the
+/// limit. Makes room for it first.
 fn read_piece(
     source: &mut dyn Source,
     splitter: &mut Splitter,
@@ -192,7 +192,11 @@ impl UnitReader {
     ghost use Rattle.vx_annexb.specs.declared.unit_reader.ReadFault.TheVariants.{Memory, SourceFailed};
     ghost use Rattle.vx_annexb.specs.declared.unit_reader.TakeFault.TheVariants.{Refused, SourceFailed as ReadFailed};
 
-    /// A reader that has read nothing.
+    /// Returns a reader that has read nothing.
+    ///
+    /// # Errors
+    ///
+    /// `AllocError` if memory runs out.
     pub fn new(alloc: Global) -> Result<UnitReader, AllocError>
         ensures read { IfOk result (λ r. HasRead r [] []) }
         ensures needed { OnOk result (LastWasNeeded [] []) }
@@ -208,8 +212,14 @@ impl UnitReader {
         })
     }
 
-    /// The next unit, in order, whose end is seen in what was read, or why it is refused; the refusal is given again from
-    /// then on. None where neither a further unit's end nor a byte that is no start code was read. It reads nothing.
+    /// Returns the next complete unit among the bytes read so far, or `None` if more bytes are needed or the
+    /// source has ended. Never reads.
+    ///
+    /// More bytes are needed if those read contain neither the end of a further unit nor a stray byte.
+    ///
+    /// # Errors
+    ///
+    /// The refusal of the unit, of a stray byte, or of the source's length. Every later call returns it again.
     pub fn next(&mut self) -> Result<Option<Span>, Refusal>
         ensures answer { (g : List ℕ) (units : List UnitPlace) → HasRead self.old g units → Finds g units self.new result }
         ensures readable { IfOk result (λ given. IfSome given (IsReadable self.new.splitter)) }
@@ -231,7 +241,8 @@ impl UnitReader {
         Ok(None)
     }
 
-    /// Whether the source may be read on: it has not ended, has given no more bytes than the limit, and has not failed.
+    /// Returns whether the source may be read on: it has not ended, has not exceeded the limit, and has not
+    /// failed.
     pub fn is_open(&self) -> bool
         ensures open { IsTrue result → IsOpen self.now }
         ensures closed { ¬ IsTrue result → IsSome self.now.closed }
@@ -240,7 +251,13 @@ impl UnitReader {
         self.closed.is_none()
     }
 
-    /// Reads once, where `next` answered none last; spans given before are given up. For want of memory nothing is read.
+    /// Reads the source once. Call it only after `next` has returned `None`. Spans returned before become
+    /// invalid.
+    ///
+    /// # Errors
+    ///
+    /// - `Memory` if memory runs out; nothing is read.
+    /// - `SourceFailed` if the read failed; the source isn't read again.
     pub fn read(&mut self, source: &mut dyn Source) -> Result<(), ReadFault>
         requires open { IsOpen self.old }
         requires sought { IsSought self.old.splitter }
@@ -271,9 +288,13 @@ impl UnitReader {
         }
     }
 
-    /// Takes bytes of the source in place of a read, where `next` answered none last: the first of a piece, at most as many as
-    /// a read asks for, and of all one more than the limit. Answers how many. Spans given before are given up. For want of
-    /// memory nothing is taken.
+    /// Appends a prefix of `piece` as if it had been read, and returns its length: at most 65,536 bytes, and at
+    /// most 2^40 + 1 in all. Call it only after `next` has returned `None`. Spans returned before become
+    /// invalid.
+    ///
+    /// # Errors
+    ///
+    /// `AllocError` if memory runs out; nothing is taken.
     pub fn feed(&mut self, piece: &[u8]) -> Result<usize, AllocError>
         requires open { IsOpen self.old }
         requires sought { IsSought self.old.splitter }
@@ -298,7 +319,7 @@ impl UnitReader {
         Ok(count)
     }
 
-    /// Says that the bytes that were taken are all there are.
+    /// Ends the source: the bytes taken so far are all there are.
     pub fn finish(&mut self)
         requires open { IsOpen self.old }
         ensures read { (g : List ℕ) (units : List UnitPlace) → HasRead self.old g units → HasRead self.new g units }
@@ -312,8 +333,15 @@ impl UnitReader {
         self.closed = Some(Closed::End);
     }
 
-    /// The next unit of the source, in order: it is read for as long as no further unit's end is seen. None at its end. A
-    /// refusal is answered again from then on.
+    /// Returns the next unit of the source, or `None` at its end. Reads only until a further unit's end is
+    /// seen.
+    ///
+    /// # Errors
+    ///
+    /// - `Refused` with the refusal of a unit, of a stray byte, or of the source's length. Every later call
+    /// returns it again, and reads nothing.
+    /// - `Memory` if memory runs out. No bytes are lost.
+    /// - `SourceFailed` if a read failed. Don't call it again.
     pub fn take(&mut self, source: &mut dyn Source) -> Result<Option<Span>, TakeFault>
         requires unfailed { self.old.closed ≡ Some Failed → ⊥ }
         ensures answer { (g : List ℕ) (units : List UnitPlace) → HasRead self.old g units → LastWasNeeded g units
@@ -337,7 +365,7 @@ impl UnitReader {
         }
     }
 
-    /// The bytes of a span that can be read.
+    /// Returns the bytes of a span. Requires that the span can be read: no call that moves bytes came after it.
     pub fn bytes(&self, span: Span) -> &[u8]
         requires { IsReadable self.now.splitter span }
         ensures { result.now ≡ slice_range (lent self.now.splitter) span.start span.end }

@@ -1,4 +1,4 @@
--- What a reader keeps to, and the steps of a read.
+-- The invariants of a reader, and the steps of a read.
 use Rattle.std.specs.Prelude.{◌≡◌, ℕ, ◌+◌, ◌-◌, ◌^◌, List, ◌++◌, Option, Some, None, Result, Ok, Err, length, take}
 use Rattle.std.specs.Io.KnownBytes.{Consumes, Keeps, IsAtEnd}
 use Rattle.vx_bits.specs.declared.refusal.Refusal.{Refusal}
@@ -14,12 +14,12 @@ use Rattle.vx_annexb.specs.ByteStream.{source_limit, UnitPlace}
 use Rattle.vx_annexb.specs.Held.{Held, Stands, fed}
 use Rattle.vx_annexb.specs.Reading.{Reading, IsOpen, HoldsFew, ClosesAt, HasRead, IsRefusedBy, LastWasNeeded, TakesTo}
 
--- how many bytes the splitter was fed of the n that were taken
+-- How many bytes the splitter was fed of the n that were taken.
 abbrev pub FedOf : Option Closed → Held → ℕ → Type 0
 FedOf (Some TooLong) h n = fed h ≡ 2 ^ 40
 FedOf _ h n = fed h ≡ n
 
--- what a reader keeps to
+-- The invariants of a reader.
 pub record IsBounded (r : Reading) : Type 0 where
   pub held : HoldsFew r
   pub closes : ClosesAt r.closed r.splitter r.taken
@@ -35,13 +35,13 @@ ReadsPiece g units new left left' faults faults' (Err Memory) =
 ReadsPiece g units new left left' faults faults' (Err SourceFailed) =
     Keeps left left' × Rose faults faults' × Stands new (take source_limit g) units
 
--- the fault of a read as one of a call that takes a unit
+-- The fault of a read as one of a call that takes a unit.
 abbrev pub fault_of : ReadFault → TakeFault
 fault_of Memory = OutOfMemory
 fault_of SourceFailed = ReadFailed
 
--- A reader that began to seek the next unit as `old` reads on; its source had these bytes left and this count of faults then,
--- and has these now.
+-- The state of a reader that began to look for the next unit as `old`; its source had these bytes left and this count of faults
+-- then, and has these now.
 pub record Taking (old r : Reading) (left left' : Option (List ℕ)) (faults faults' : ℕ) : Type 0 where
   pub taking : (g : List ℕ) (units : List UnitPlace) → HasRead old g units → LastWasNeeded g units
       → (faults' ≡ faults) × TakesTo g units r left left'
@@ -52,7 +52,7 @@ pub record Taking (old r : Reading) (left left' : Option (List ℕ)) (faults fau
       → (left' ≡ left) × (faults' ≡ faults)
   pub unfailed : r.closed ≡ Some Failed → ⊥
 
--- how many reads a reader may still make, at most
+-- The greatest number of reads that a reader may still make.
 abbrev pub reads_left : ℕ → Option Closed → ℕ
 reads_left taken None = 2 ^ 40 + 1 - taken
 reads_left taken (Some _) = 0
