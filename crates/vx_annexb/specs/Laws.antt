@@ -127,7 +127,7 @@ UnescapedJoins =
     (h m q : List ℕ) → EndsInNoZero h → IsEscaped h m
     → (unescaped (m ++ q) ≡ h ++ unescaped q) × IsFirstFrom (λ place. length (unescaped_to (m ++ q) place) ≡ length h) 0 (length m)
 
--- Escaping adds at most one byte to each two.
+-- Escaping adds at most one byte for every two.
 abbrev pub EscapedIsShort : Type 0
 EscapedIsShort = (r n : List ℕ) → IsEscaped r n → 2 * length n ≤ 3 * length r
 

@@ -6,7 +6,7 @@ pub fn stream_is_unique()
     ensures { StreamIsUnique }
 {}
 
-/// If there are bytes, then they have units and an ending.
+/// Every list of bytes has units and an ending.
 pub fn stream_exists()
     ensures { StreamExists }
 {}
@@ -73,7 +73,7 @@ pub fn unescaped_joins()
     ensures { UnescapedJoins }
 {}
 
-/// If bytes are escaped, then at most one byte is added to each two.
+/// If bytes are escaped, then at most one byte is added for every two.
 pub fn escaped_is_short()
     ensures { EscapedIsShort }
 {}

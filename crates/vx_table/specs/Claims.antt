@@ -1,5 +1,5 @@
--- The tests of what structures depend on, over rows. What they find is told by their laws, so that a reader need not believe how
--- they find it.
+-- Tests over rows of what structures depend on. Their laws say what a positive result implies, so a reader need not believe how the
+-- tests work.
 use Rattle.std.specs.Prelude.{ℕ, zero, suc, ◌-◌, min, Bool, true, false, cond, not, ◌&&◌, ◌||◌, List, [], ◌∷◌, ◌++◌, length, take}
 use Rattle.vx_table.specs.declared.rows.Term.{Term}
 use Rattle.vx_table.specs.declared.rows.Term.TheVariants.{Number, Latest}
@@ -20,7 +20,7 @@ use Rattle.vx_table.specs.Forms.{has_value}
 use Rattle.vx_table.specs.Parts.{Section}
 use Rattle.vx_table.specs.Depends.{has}
 
--- a formula reads only names of a set
+-- A formula reads only names of a set.
 abbrev pub knows : List ℕ → Term → Bool
 knows known (Number n) = true
 knows known (Latest of) = has known of
@@ -64,7 +64,7 @@ unfoldable pub knows_presence : List ℕ → Presence → Bool
 knows_presence known (When holds) = knows_formula known holds
 knows_presence known (Repeat counter times) = knows_formula known times
 
--- rows without a shown field, which give no shown name a number
+-- Rows have no shown field, and give no shown name a number.
 unfoldable pub hides_counter : List ℕ → Presence → Bool
 hides_counter shown (When holds) = true
 hides_counter shown (Repeat counter times) = not (has shown counter)
@@ -78,7 +78,7 @@ abbrev pub hides : List ℕ → List Row → Bool
 hides shown [] = true
 hides shown (row ∷ rows) = hides_row shown row && hides shown rows
 
--- what is known behind a row that gives this name a number, and within a block
+-- What is known after a row that gives this name a number, and within a block.
 abbrev pub grown : List ℕ → List ℕ → ℕ → List ℕ
 grown shown known n = cond (has shown n) (n ∷ known) known
 
@@ -89,21 +89,20 @@ unfoldable pub within_block : List ℕ → List ℕ → Presence → List ℕ
 within_block shown known (When holds) = known
 within_block shown known (Repeat counter times) = grown shown known counter
 
--- A block's presence is known, and its rows pass with what is known within it; or all that it has is hidden.
+-- A block's presence is known, and its rows pass with what is known within it; or everything in it is hidden.
 abbrev pub block_depends : List ℕ → List ℕ → Presence → Bool → (List ℕ → Bool) → Bool
 block_depends shown known presence hidden inside =
     (hides_counter shown presence && hidden) || (knows_presence known presence && inside (within_block shown known presence))
 
--- a shown field's width and range are known
+-- A shown field's width and range are known,
 abbrev pub field_depends : List ℕ → List ℕ → Cell Formula → Bool
 field_depends shown known c = not (has shown c.field) || knows_cell known c
 
--- and a shown name's formula
+-- and so is a shown name's formula.
 abbrev pub name_depends : List ℕ → List ℕ → ℕ → Formula → Bool
 name_depends shown known name formula = not (has shown name) || knows_formula known formula
 
--- The shown fields and names depend only on what is known where they stand. It is said of len rows, those behind the first
--- skip of them.
+-- The shown fields and names depend only on what is known before them. This is said of len rows after the first skip rows.
 unfoldable pub depends : List ℕ → List ℕ → ℕ → ℕ → List Row → Bool
 depends shown known skip len [] = true
 depends shown known (suc skip) len (row ∷ rows) = depends shown known skip len rows
@@ -116,7 +115,7 @@ depends shown known zero (suc len) (Block presence n ∷ rows) =
 depends shown known zero (suc len) (Name name formula ∷ rows) =
     name_depends shown known name formula && depends shown (grown shown known name) zero len rows
 
--- What is known behind rows: what was before, and what fields and names outside blocks give.
+-- What is known after rows: what was known before, and what fields and names outside of blocks add.
 unfoldable pub behind_rows : List ℕ → List ℕ → ℕ → ℕ → List Row → List ℕ
 behind_rows shown known skip len [] = known
 behind_rows shown known (suc skip) len (row ∷ rows) = behind_rows shown known skip len rows
@@ -125,14 +124,14 @@ behind_rows shown known zero (suc len) (Field c ∷ rows) = behind_rows shown (b
 behind_rows shown known zero (suc len) (Block presence n ∷ rows) = behind_rows shown known (min n len) (len - min n len) rows
 behind_rows shown known zero (suc len) (Name name formula ∷ rows) = behind_rows shown (grown shown known name) zero len rows
 
--- The two are said of a table,
+-- The two for a table,
 unfoldable pub table_depends : List ℕ → List ℕ → List Row → Bool
 table_depends shown known rows = depends shown known 0 (length rows) rows
 
 unfoldable pub behind_table : List ℕ → List ℕ → List Row → List ℕ
 behind_table shown known rows = behind_rows shown known 0 (length rows) rows
 
--- of one that is there so often,
+-- for a table that is present as often as a presence says,
 abbrev pub rows_depend : List ℕ → List ℕ → Presence → List Row → Bool
 rows_depend shown known presence rows = block_depends shown known presence (hides shown rows) (λ there. table_depends shown there rows)
 
@@ -147,7 +146,7 @@ section_depends shown known section =
 abbrev pub behind_section : List ℕ → List ℕ → Section → List ℕ
 behind_section shown known section = cond (comes_always section.presence) (behind_table shown known section.rows) known
 
--- and of the tables of a structure, each with what is known behind those before it.
+-- and for the tables of a structure, each with what is known after those before it.
 abbrev pub sections_chain : List ℕ → List ℕ → List Section → Bool
 sections_chain shown known [] = true
 sections_chain shown known (section ∷ more) = section_depends shown known section
@@ -157,14 +156,14 @@ abbrev pub behind_sections : List ℕ → List ℕ → List Section → List ℕ
 behind_sections shown known [] = known
 behind_sections shown known (section ∷ more) = behind_sections shown (behind_section shown known section) more
 
--- the test of a table, and of a structure
+-- The test of a table, and of a structure.
 abbrev pub depends_only_on : (given shown : List ℕ) → List Row → Bool
 depends_only_on given shown rows = table_depends (given ++ shown) given rows
 
 abbrev pub sections_depend_only_on : (given shown : List ℕ) → List Section → Bool
 sections_depend_only_on given shown sections = sections_chain (given ++ shown) given sections
 
--- the test that a structure leaves names alone
+-- The test that a structure leaves names unchanged.
 abbrev pub hides_section : List ℕ → Section → Bool
 hides_section names section = hides_counter names section.presence && hides names section.rows
 

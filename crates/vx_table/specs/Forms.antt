@@ -1,4 +1,5 @@
--- What a table means: the fields in order, each with its coding and range, and after each value how it goes on (H.266 7.1, 7.2).
+-- The meaning of a table: the fields in order, each with its coding and range, and after each value how it goes on (H.266 7.1,
+-- 7.2).
 use Rattle.std.specs.Prelude.{ℕ, ℤ, zero, suc, ◌+◌, ◌-◌, min, Bool, true, false, cond, ◌==◌, List, [], ◌∷◌, length, slice_set, Option}
 use Rattle.std.specs.Prelude.{Some, None, ◌&&◌}
 use Rattle.std.specs.Option.{option_or}
@@ -25,7 +26,7 @@ abbrev pub ◌>>=◌ : {A B : Type 0} → Form A → (A → Form B) → Form B
 (done a) >>= next = next a
 (field cell goes) >>= next = field cell (λ v. goes v >>= next)
 
--- a field's coding and range at a scope; no field is wider than 32 bits (descriptors, 7.2)
+-- A field's coding at a scope; no field is wider than 32 bits (descriptors, 7.2).
 unfoldable pub coding_at : List ℕ → Coding Formula → Coding ℕ
 coding_at s (Fixed width) = Fixed (min (value s width) 32)
 coding_at s Golomb = Golomb
@@ -36,18 +37,18 @@ coding_at s Trailing = Trailing
 coding_at s Absent = Absent
 coding_at s Refused = Refused
 
--- its range (7.4)
+-- A field's range at a scope (7.4).
 unfoldable pub limits_at : List ℕ → Limits Formula → Limits ℕ
 limits_at s Any = Any
 limits_at s (Within low high fault) = Within low (value s high) fault
 limits_at s (Below bound fault) = Below (value s bound) fault
 limits_at s (Multiple unit high fault) = Multiple unit high fault
 
--- both (our own)
+-- Both (our own).
 abbrev pub cell_at : List ℕ → Cell Formula → Cell ℕ
 cell_at s c = record { field = c.field; kept = c.kept; coding = coding_at s c.coding; limits = limits_at s c.limits }
 
--- a field of the bits, and no gap (our own)
+-- A field that has bits, and no gap (our own).
 unfoldable pub has_value : {N : Type 0} → Coding N → Bool
 has_value (Fixed width) = true
 has_value Golomb = true
@@ -58,36 +59,36 @@ has_value Trailing = false
 has_value Absent = false
 has_value Refused = false
 
--- how a row codes the field with this number
+-- How a row codes the field with this number.
 abbrev pub coding_in : Row → ℕ → Option (Coding Formula)
 coding_in (Field c) of = cond (c.field == of && has_value c.coding) (Some c.coding) None
 coding_in (Block presence n) of = None
 coding_in (Name name formula) of = None
 
--- how a table codes it
+-- How a table codes it.
 abbrev pub coding_of : List Row → ℕ → Option (Coding Formula)
 coding_of [] of = None
 coding_of (row ∷ rows) of = option_or (coding_in row of) (coding_of rows of)
 
--- the scope after a field's value (our own)
+-- The scope after a field's value (our own).
 unfoldable pub after : List ℕ → Cell ℕ → ℤ → List ℕ
 after s cell v = cond (has_value cell.coding) (slice_set s cell.field (natural v)) s
 
--- one field, and the scope after it (7.1)
+-- One field, and the scope after it (7.1).
 unfoldable pub one_field : List ℕ → Cell Formula → Form (List ℕ)
 one_field s c = field (cell_at s c) (λ v. done (after s (cell_at s c) v))
 
--- from this turn on, so many turns of a block that reads the number of its turn (a "for" of 7.1)
+-- The turns of a block from this one on, where the block can read the number of its turn (a "for" of 7.1).
 unfoldable pub turns : (List ℕ → Form (List ℕ)) → ℕ → ℕ → ℕ → List ℕ → Form (List ℕ)
 turns block counter turn zero s = done s
 turns block counter turn (suc more) s = block (slice_set s counter turn) >>= turns block counter (turn + 1) more
 
--- a block as often as it is there: once where the formula isn't 0, or in so many turns (an "if" or a "for" of 7.1)
+-- A block as often as it is present: once if the formula isn't 0, or in turns (an "if" or a "for" of 7.1).
 unfoldable pub present : Presence → (List ℕ → Form (List ℕ)) → List ℕ → Form (List ℕ)
 present (When holds) block s = cond (value s holds == 0) (done s) (block s)
 present (Repeat counter times) block s = turns block counter 0 (value s times) s
 
--- The form of len rows, those behind the first skip of them (7.1).
+-- The form of len rows after the first skip rows (7.1).
 unfoldable pub part : ℕ → ℕ → List Row → List ℕ → Form (List ℕ)
 part skip len [] s = done s
 part (suc skip) len (row ∷ rows) s = part skip len rows s

@@ -1,4 +1,4 @@
--- What tables mean, what is said of values and bits by them, and the laws on all of them.
+-- The meaning of tables, what they imply for values and bits, and the laws on all of them.
 pub mod Scope
 pub mod Forms
 pub mod Walks

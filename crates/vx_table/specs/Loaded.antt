@@ -24,7 +24,7 @@ use Rattle.vx_table.specs.Depends.{has, Agree}
 use Rattle.vx_table.specs.Claims.{hides_counter}
 use Rattle.vx_table.specs.Shown.{shown_items}
 
--- A field's number in a structure's items: what loading them gives, its last item's, and 0 where it has none.
+-- A field's number in a structure's items: that of its last item, and 0 if it has none.
 abbrev pub number : List Item → ℕ → ℕ
 number items of = slice_index (loaded fresh items) of
 
@@ -35,14 +35,14 @@ NumberOfLast = (of : ℕ) (v : ℤ) (front behind : List Item) → of < 1024 →
 abbrev pub NumberOfNone : Type 0
 NumberOfNone = (of : ℕ) (items : List Item) → All (λ item. (item.field == of) ≡ false) items → number items of ≡ 0
 
--- it is that of the items of any set of fields that has it
+-- The items of any set of fields that has the field give it the same number.
 abbrev pub NumberOfShown : Type 0
 NumberOfShown = (names : List ℕ) (of : ℕ) (items : List Item) → IsTrue (has names of)
     → number items of ≡ number (shown_items names items) of
 
 -- ---- the scope at the end
 
--- Where a structure ends, these names have the numbers that its items give them, or else those that they had.
+-- Where a structure ends, these names have the numbers that its items give them, or otherwise those that they had.
 pub record Loads (names : List ℕ) (form : List ℕ → Form (List ℕ)) : Type 0 where
   pub at : (s : List ℕ) (values : List ℤ) (end : List ℕ) → Follows (form s) values end
       → Agree names (loaded s (items_along (form s) values)) end
@@ -51,7 +51,7 @@ abbrev pub LoadsTogether : Type 0
 LoadsTogether = (names : List ℕ) (first more : List ℕ → Form (List ℕ)) → Loads names first → Loads names more
     → Loads names (λ s. first s >>= more)
 
--- the test over rows: none gives one of the names a number but as a field
+-- The test over rows: a row gives one of these names a number only as a field.
 unfoldable pub names_none : List ℕ → Row → Bool
 names_none names (Field c) = true
 names_none names (Block presence n) = hides_counter names presence
@@ -70,11 +70,11 @@ SectionsLoad = (names : List ℕ) (sections : List Section) → sections_name_no
 
 -- ---- bounds
 
--- values of this field are numbers below a bound
+-- Values of this field are numbers below a bound.
 abbrev pub StaysBelow : ℕ → ℕ → Cell ℕ → Type 0
 StaysBelow of bound cell = IsTrue (has_value cell.coding) → cell.field ≡ of → (v : ℤ) → IsValueOf cell v → natural v < bound
 
--- then so are the field's items,
+-- Then so are the field's items,
 abbrev pub IsBelow : ℕ → ℕ → Item → Type 0
 IsBelow of bound item = item.field ≡ of → natural item.value < bound
 
@@ -82,12 +82,12 @@ abbrev pub ItemsBelow : Type 0
 ItemsBelow = (of bound : ℕ) (form : Form (List ℕ)) (values : List ℤ) (end : List ℕ) → EachField (StaysBelow of bound) form
     → Follows form values end → All (IsBelow of bound) (items_along form values)
 
--- and the field's number
+-- and the field's number.
 abbrev pub NumberBelow : Type 0
 NumberBelow = (of bound : ℕ) (form : Form (List ℕ)) (values : List ℤ) (end : List ℕ) → 0 < bound → EachField (StaysBelow of bound) form
     → Follows form values end → number (items_along form values) of < bound
 
--- the test over rows: the field's code, or its range, gives that bound
+-- The test over rows: the field's code, or its range, gives that bound.
 unfoldable pub code_below : ℕ → Coding Formula → Bool
 code_below bound (Fixed (Plain (Number n))) = nat_le (2 ^ min n 32) bound
 code_below bound coding = nat_lt most bound
@@ -111,6 +111,6 @@ abbrev pub SectionsStayBelow : Type 0
 SectionsStayBelow = (of bound : ℕ) (sections : List Section) (s : List ℕ) → 0 < bound → sections_pass (row_below of bound) sections ≡ true
     → EachField (StaysBelow of bound) (sections_form sections s)
 
--- the numbers of a field's items, in order
+-- The numbers of a field's items, in order.
 abbrev pub numbers_of : List Item → ℕ → List ℕ
 numbers_of items of = map (λ item. natural item.value) (filter (λ item. item.field == of) items)

@@ -1,5 +1,5 @@
--- The fields and names that rows give numbers to: tables that read no number but those given to them and their own, and fields
--- that one row alone codes. Our own.
+-- The fields and names that rows give numbers to: tables that read only given numbers and their own, and fields that only one row
+-- codes. Our own.
 use Rattle.std.specs.Prelude.{◌≢◌, ℕ, cond, List, [], ◌∷◌, ◌++◌}
 use Rattle.std.specs.List.{AllPairs}
 use Rattle.vx_table.specs.declared.rows.Presence.{Presence}
@@ -10,7 +10,7 @@ use Rattle.vx_table.specs.Forms.{has_value, form_of}
 use Rattle.vx_table.specs.Parts.{Section, sections_form}
 use Rattle.vx_table.specs.Depends.{DependsOnlyOn}
 
--- what a row gives a number: its field, its name, its block's counter
+-- What a row gives a number: its field, its name, its block's counter.
 abbrev pub counter_of : Presence → List ℕ
 counter_of (When holds) = []
 counter_of (Repeat counter times) = counter ∷ []
@@ -24,12 +24,12 @@ abbrev pub named_by : List Row → List ℕ
 named_by [] = []
 named_by (row ∷ rows) = named_by_row row ++ named_by rows
 
--- Of the scope that it is read or written at, a table reads the given numbers alone: at two scopes that agree on these, it has
--- the same fields with the same codings and ranges, after the same values.
+-- Of the scope at which it is read or written, a table reads only the given numbers: at two scopes that agree on these, it has the
+-- same fields with the same codings and ranges, after the same values.
 abbrev pub ReadsOnly : (given : List ℕ) → List Row → Type 0
 ReadsOnly given rows = DependsOnlyOn given (named_by rows) (form_of rows)
 
--- So does a structure of several tables.
+-- The same for a structure of several tables.
 abbrev pub named_by_all : List Section → List ℕ
 named_by_all [] = []
 named_by_all (section ∷ more) = (counter_of section.presence ++ named_by section.rows) ++ named_by_all more
@@ -37,7 +37,7 @@ named_by_all (section ∷ more) = (counter_of section.presence ++ named_by secti
 abbrev pub SectionsReadOnly : (given : List ℕ) → List Section → Type 0
 SectionsReadOnly given sections = DependsOnlyOn given (named_by_all sections) (sections_form sections)
 
--- the fields that rows code, gaps left out
+-- The fields that rows code, without gaps.
 abbrev pub coded_by_row : Row → List ℕ
 coded_by_row (Field c) = cond (has_value c.coding) (c.field ∷ []) []
 coded_by_row (Block presence n) = []

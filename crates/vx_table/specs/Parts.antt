@@ -9,12 +9,12 @@ use Rattle.vx_table.specs.declared.rows.Presence.TheVariants.{When, Repeat}
 use Rattle.vx_table.specs.declared.rows.Row.{Row}
 use Rattle.vx_table.specs.Forms.{Form, done, ◌>>=◌, present, form_of}
 
--- A table, and how often it is there.
+-- A table, and how often it is present.
 pub record Section : Type 0 where
   pub presence : Presence
   pub rows : List Row
 
--- a table that is there where a formula isn't 0, one that is always there, and one that comes in so many turns under a counter (7.1)
+-- A table that is present if a formula isn't 0, one that is always present, and one that is repeated under a counter (7.1).
 abbrev pub provided : Formula → List Row → Section
 provided holds rows = record { presence = When holds; rows = rows }
 
@@ -27,12 +27,12 @@ in_turns counter times rows = record { presence = Repeat counter times; rows = r
 abbrev pub section_form : Section → List ℕ → Form (List ℕ)
 section_form section = present section.presence (form_of section.rows)
 
--- one table after another (7.1)
+-- One table after another (7.1).
 unfoldable pub sections_form : List Section → List ℕ → Form (List ℕ)
 sections_form [] s = done s
 sections_form (section ∷ more) s = section_form section s >>= sections_form more
 
--- the parts of a structure, wherever their tables lie in memory
+-- The parts of a structure, wherever their tables are in memory.
 abbrev pub section_of : Part → Section
 section_of part = record { presence = part.presence; rows = part.rows.now }
 

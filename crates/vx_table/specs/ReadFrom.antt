@@ -4,6 +4,6 @@ use Rattle.vx_bits.specs.declared.list.Item.{Item}
 use Rattle.vx_table.specs.Forms.{Form}
 use Rattle.vx_table.specs.Reading.{ReadsValue}
 
--- the RBSP, where it is known, is read as these items
+-- The RBSP, if it is known, is read as these items.
 abbrev pub IsReadFrom : {A : Type 0} → Form A → Option (List ℕ) → List Item → Type 0
 IsReadFrom form known items = IfSome known (λ rbsp. ReadsValue form rbsp (Ok items))

@@ -1,4 +1,4 @@
--- A structure that is rewritten and written in one walk.
+-- A structure that is rewritten and written in one walk. Our own.
 use Rattle.std.specs.Prelude.{◌≡◌, ℕ, ℤ, Bool, IsFalse, List, [], ◌∷◌, ◌++◌, length, IfOk, Result, Ok, Err}
 use Rattle.vx_bits.specs.declared.list.Item.{Item}
 use Rattle.vx_table.specs.declared.rows.Cell.{Cell}
@@ -12,7 +12,7 @@ use Rattle.vx_table.specs.Writing.{WritesField, IsWritten}
 use Rattle.vx_table.specs.Depends.{has}
 use Rattle.vx_table.specs.Rewritten.{Sources, TakesItems, HasNoItem, RewritesField, IsRewritten}
 
--- No item comes next that is of a field of the set.
+-- The next item is of no field of the set.
 abbrev pub BeginsWithOther : List ℕ → List Item → Type 0
 BeginsWithOther names [] = Unit {0}
 BeginsWithOther names (item ∷ more) = IsFalse (has names item.field)
@@ -24,20 +24,20 @@ SendsField old bits cell (Ok v) new after = IsValueOf cell v × TakesItems (item
 SendsField old bits cell (Err errors.Memory) new after = after ≡ bits
 SendsField old bits cell (Err errors.NoValue) new after = HasNoItem cell old × (after ≡ bits)
 
--- A rewriter makes items of the structure, with the same answer; where it comes to the end of it, a writer of these items has
--- appended these bits.
+-- A rewriter makes items of the structure, with the same answer; if it reaches the end, then a writer of these items has appended
+-- these bits.
 pub record IsSentAs {A : Type 0} (form : Form A) (old : Sources) (bits : List Bool) (result : Result A SpellError) (new : Sources)
     (after : List Bool) : Type 0 where
   pub items : List Item
   pub rewritten : Walks RewritesField form old [] result new items
   pub written : IfOk result (λ end. Walks WritesField form bits items (Ok end) after [])
 
--- Whatever the walk of a sender, it is that of a rewriter and of a writer behind it.
+-- Every walk of a sender is that of a rewriter followed by a writer.
 abbrev pub SentAsRewritten : Type 0
 SentAsRewritten = (form : Form (List ℕ)) (old new : Sources) (bits after : List Bool) (result : Result (List ℕ) SpellError)
     → Walks SendsField form old bits result new after → IsSentAs form old bits result new after
 
--- So from the items that a rewritten structure has of the one kind and of the other it writes that structure.
+-- So from the items that a rewritten structure has of each kind it writes that structure.
 abbrev pub SendsRewritten : Type 0
 SendsRewritten = (form : Form (List ℕ)) (old new : Sources) (items : List Item) (after : List Bool) (end : List ℕ)
     (result : Result (Unit {0}) SpellError)

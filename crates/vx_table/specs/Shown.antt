@@ -13,48 +13,48 @@ use Rattle.vx_table.specs.Kept.{stands_for_field, kept_along}
 use Rattle.vx_table.specs.declared.rows.Row.{Row}
 use Rattle.vx_table.specs.declared.rows.Row.TheVariants.{Field, Block, Name}
 
--- the items of shown fields
+-- The items of shown fields.
 abbrev pub shown_items : List ℕ → List Item → List Item
 shown_items shown items = filter (λ item. has shown item.field) items
 
--- the shown fields that values go through, in order, each with its coding and its range
+-- The shown fields that values go through, in order, each with its coding and its range.
 abbrev pub shown_cells : List ℕ → Form (List ℕ) → List ℤ → List (Cell ℕ)
 shown_cells shown (done s) w = []
 shown_cells shown (field cell goes) [] = []
 shown_cells shown (field cell goes) (v ∷ w) = cond (has shown cell.field) (cell ∷ shown_cells shown (goes v) w)
     (shown_cells shown (goes v) w)
 
--- values of alike forms which have the same shown items have the same shown fields, with the same codings and ranges, and leave
--- scopes that agree
+-- Values of alike forms with the same shown items have the same shown fields, with the same codings and ranges, and leave scopes
+-- that agree.
 abbrev pub CellsFollowItems : Type 0
 CellsFollowItems = (shown known : List ℕ) (f g : Form (List ℕ)) (v w : List ℤ) (s t : List ℕ) → Alike shown known f g → Follows f v s
     → Follows g w t → shown_items shown (items_along f v) ≡ shown_items shown (items_along g w)
     → (shown_cells shown f v ≡ shown_cells shown g w) × Agree known s t
 
--- items that have the same shown ones lead from scopes that agree to scopes that agree
+-- Items with the same shown ones lead from scopes that agree to scopes that agree.
 abbrev pub ScopesFollowItems : Type 0
 ScopesFollowItems = (names s t : List ℕ) (items others : List Item) → Agree names s t → shown_items names items ≡ shown_items names others
     → Agree names (loaded s items) (loaded t others)
 
--- alike structures behind alike ones are alike
+-- Alike structures after alike ones are alike.
 abbrev pub AlikeTogether : Type 0
 AlikeTogether = (shown mid known : List ℕ) (f g : Form (List ℕ)) (next other : List ℕ → Form (List ℕ)) → Alike shown mid f g
     → ((s t : List ℕ) → Agree mid s t → Alike shown known (next s) (other t)) → Alike shown known (f >>= next) (g >>= other)
 
--- a form keeps exactly the shown ones of its fields
+-- A form keeps exactly the shown ones of its fields.
 abbrev pub IsKeptWhereShown : List ℕ → Cell ℕ → Type 0
 IsKeptWhereShown shown cell = IsTrue (stands_for_field cell.coding) → cell.kept ≡ has shown cell.field
 
 abbrev pub KeepsShown : List ℕ → Form (List ℕ) → Type 0
 KeepsShown shown form = EachField (IsKeptWhereShown shown) form
 
--- then values of alike forms which have the same kept items have the same kept fields, with the same codings and ranges
+-- Then values of alike forms with the same kept items have the same kept fields, with the same codings and ranges.
 abbrev pub CellsFollowKept : Type 0
 CellsFollowKept = (shown known : List ℕ) (f g : Form (List ℕ)) (v w : List ℤ) (s t : List ℕ) → Alike shown known f g → KeepsShown shown f
     → KeepsShown shown g → Follows f v s → Follows g w t → kept_along f v ≡ kept_along g w
     → (shown_cells shown f v ≡ shown_cells shown g w) × Agree known s t
 
--- the test over rows: a field has a star exactly where it isn't shown
+-- The test over rows: a field has a star exactly if it isn't shown.
 unfoldable pub star_tells : List ℕ → Row → Bool
 star_tells shown (Field c) = not (stands_for_field c.coding) || cond c.kept (has shown c.field) (not (has shown c.field))
 star_tells shown (Block presence n) = true
@@ -66,12 +66,12 @@ stars_tell shown rows = rows_pass (star_tells shown) rows
 abbrev pub sections_stars_tell : List ℕ → List Section → Bool
 sections_stars_tell shown sections = sections_pass (star_tells shown) sections
 
--- at each scope a form keeps exactly the shown ones of its fields
+-- At each scope a form keeps exactly the shown ones of its fields.
 pub record KeepsOnly (given shown : List ℕ) (form : List ℕ → Form (List ℕ)) : Type 0 where
   pub keeps : (s : List ℕ) → KeepsShown (given ++ shown) (form s)
 
--- Kept fields depend on kept fields and on the given numbers alone: where a form keeps what is shown, and the shown depend only
--- on the given, equal kept items at scopes that agree on the given come from equal kept fields, with equal codings and ranges.
+-- Kept fields depend only on kept fields and on the given numbers: if a form keeps what is shown, and the shown depend only on the
+-- given, then equal kept items at scopes that agree on the given come from equal kept fields, with equal codings and ranges.
 abbrev pub KeptTellsKept : Type 0
 KeptTellsKept = (given shown : List ℕ) (form : List ℕ → Form (List ℕ)) (s t a b : List ℕ) (v w : List ℤ) → DependsOnlyOn given shown form
     → KeepsOnly given shown form → Agree given s t → Follows (form s) v a → Follows (form t) w b

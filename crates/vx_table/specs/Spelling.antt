@@ -1,4 +1,4 @@
--- How values are spelled, and where and why bits are refused, said of forms and apart from any walk.
+-- How values are spelled, and where and why bits are refused, stated for forms and apart from any walk.
 use Rattle.std.specs.Int.RustNames.{unsigned_abs}
 use Rattle.std.specs.Prelude.{◌≡◌, ◌≢◌, ℕ, ℤ, pos, negsuc, zero, suc, ◌-◌, ◌%◌, ◌^◌, ◌<◌, ◌≤◌, Bool, false, cond, ◌&&◌, ◌==◌, List, []}
 use Rattle.std.specs.Prelude.{◌∷◌, ◌++◌, length, Option, Some, None}
@@ -19,7 +19,7 @@ use Rattle.vx_table.specs.declared.rows.Limits.TheVariants.{Any, Within, Below, 
 use Rattle.vx_table.specs.declared.rows.Cell.{Cell}
 use Rattle.vx_table.specs.Forms.{Form, done, field, has_value}
 
--- the values that a coding has; a gap counts as a value 0 (H.266 clauses 7.2 and 9.2)
+-- The values that a coding has; a gap counts as a value 0 (H.266 clauses 7.2 and 9.2).
 unfoldable pub HasCode : Coding ℕ → ℤ → Type 0
 HasCode (Fixed n) (pos v) = v < 2 ^ n
 HasCode (Fixed n) (negsuc v) = ⊥
@@ -32,7 +32,7 @@ HasCode Trailing v = v ≡ pos 0
 HasCode Absent v = v ≡ pos 0
 HasCode Refused v = ⊥
 
--- the bits of a value at a place of the structure's bits (7.2, 9.2)
+-- The bits of a value at a place of the structure's bits (7.2, 9.2).
 unfoldable pub code_of : Coding ℕ → ℕ → ℤ → List Bool
 code_of (Fixed n) place v = fixed n (unsigned_abs v)
 code_of Golomb place v = exp_golomb (unsigned_abs v)
@@ -43,29 +43,29 @@ code_of Trailing place v = one_from place
 code_of Absent place v = []
 code_of Refused place v = []
 
--- behind a trailing nothing may follow (rbsp_trailing_bits( ), 7.3.2)
+-- After a trailing nothing may follow (rbsp_trailing_bits( ), 7.3.2).
 unfoldable pub MayEnd : Coding ℕ → List Bool → Type 0
 MayEnd Trailing rest = rest ≡ []
 MayEnd coding rest = Unit {0}
 
--- The bits that are left, of so many in all, begin with the code of the value, and the rest is behind it (7.2, 9.2).
+-- The bits that are left, out of `total`, begin with the code of the value, and the rest comes after it (7.2, 9.2).
 pub record BeginsCode (coding : Coding ℕ) (total : ℕ) (v : ℤ) (left rest : List Bool) : Type 0 where
   pub value : HasCode coding v
   pub bits : left ≡ code_of coding (total - length left) v ++ rest
   pub end : MayEnd coding rest
 
--- no field is wider than 32 bits
+-- No field is wider than 32 bits.
 abbrev pub IsCodable : Coding ℕ → Type 0
 IsCodable (Fixed n) = n ≤ 32
 IsCodable coding = Unit {0}
 
--- whether it is one of 1, 2, 3 .. times the unit (our own)
+-- The value is 1, 2, 3 .. times the unit (our own).
 abbrev pub is_multiple : ℕ → ℤ → Bool
 is_multiple unit (pos zero) = false
 is_multiple unit (pos (suc v)) = suc v % unit == 0
 is_multiple unit (negsuc v) = false
 
--- the fault of a value, where it breaks the range (ranges, 7.4)
+-- The fault of a value outside the range (ranges, 7.4).
 unfoldable pub fault_of : Limits ℕ → ℤ → Option Fault
 fault_of Any v = None
 fault_of (Within low high fault) v = cond (int_le low v && int_le v (pos high)) None (Some fault)
@@ -89,7 +89,7 @@ pub data Reaches {A : Type 0} (total : ℕ) : Form A → List ℤ → List Bool 
   later : {cell next : Cell ℕ} {goes : ℤ → Form A} {v : ℤ} {w : List ℤ} {left mid rest : List Bool}
       → BeginsField cell total v left mid → Reaches total (goes v) w mid next rest → Reaches total (field cell goes) (v ∷ w) left next rest
 
--- no code of this kind begins here, for this cause (our own)
+-- No code of this kind begins here, for this cause (our own).
 unfoldable pub Misses : Coding ℕ → ℕ → List Bool → BitCause → Type 0
 Misses (Fixed n) place left causes.Short = length left < n
 Misses Golomb place left causes.Short = EndsWithinCode left
@@ -104,29 +104,29 @@ Misses Trailing place left causes.BadTrailing = (left ≢ []) × (left ≢ one_f
 Misses Refused place left causes.OutOfRange = Unit {0}
 Misses coding place left cause = ⊥
 
--- what a fault is reported as, at a field and a bit (our own)
+-- The refusal as which a fault is reported, at a field and a bit (our own).
 unfoldable pub reported : Fault → ℕ → ℕ → Refusal
 reported faults.OutOfRange of bit = refusals.Syntax of bit causes.OutOfRange
 reported (faults.Profile code) of bit = refusals.Profile code
 reported (faults.Limit code) of bit = refusals.Limit code
 reported (faults.Structure code) of bit = refusals.Structure code 0 0
 
--- The field is refused where the rest begins: no code begins, or that of a value which breaks the range (our own).
+-- The field is refused where the rest begins: no code begins there, or that of a value outside the range (our own).
 pub data IsRefusedField (cell : Cell ℕ) (total : ℕ) (rest : List Bool) : Refusal → Type 0 where
   missed : {cause : BitCause} → Misses cell.coding (total - length rest) rest cause
       → IsRefusedField cell total rest (refusals.Syntax cell.field (total - length rest) cause)
   broken : {v : ℤ} {behind : List Bool} {fault : Fault} → BeginsCode cell.coding total v rest behind → fault_of cell.limits v ≡ Some fault
       → IsRefusedField cell total rest (reported fault cell.field (total - length rest))
 
--- a value as an item; a gap has none (our own)
+-- A value as an item; a gap has none (our own).
 abbrev pub one_item : ℕ → Coding ℕ → ℤ → List Item
 one_item of coding v = cond (has_value coding) (record { field = of; value = v } ∷ []) []
 
--- that of a field (our own)
+-- The item of a field (our own).
 unfoldable pub item_of : Cell ℕ → ℤ → List Item
 item_of cell v = one_item cell.field cell.coding v
 
--- the items of values that go along a form (our own)
+-- The items of values that go along a form (our own).
 abbrev pub items_along : {A : Type 0} → Form A → List ℤ → List Item
 items_along (done a) w = []
 items_along (field cell goes) [] = []

@@ -1,15 +1,15 @@
--- What values a field may have, how values go through a form, and what they are spelled as.
+-- The values that a field may have, how values go through a form, and how they are spelled.
 use Rattle.std.specs.Prelude.{◌≡◌, ℕ, ℤ, ◌+◌, Bool, List, [], ◌∷◌, ◌++◌, length, None}
 use Rattle.vx_table.specs.declared.rows.Cell.{Cell}
 use Rattle.vx_table.specs.Forms.{Form, done, field}
 use Rattle.vx_table.specs.Spelling.{HasCode, MayEnd, code_of, fault_of}
 
--- A field may have the value: it has a code, and keeps its range (7.2, 7.4).
+-- A field may have the value: it has a code, and is in the range (7.2, 7.4).
 pub record IsValueOf (cell : Cell ℕ) (v : ℤ) : Type 0 where
   pub code : HasCode cell.coding v
   pub range : fault_of cell.limits v ≡ None
 
--- The values go through the form to its end, each one that its field may have, and this is what stands at that end (7.1).
+-- The values go through the form to its end, each one that its field may have, and this is what is at that end (7.1).
 pub data Follows {A : Type 0} : Form A → List ℤ → A → Type 0 where
   to_end : {a : A} → Follows (done a) [] a
   through : {cell : Cell ℕ} {goes : ℤ → Form A} {v : ℤ} {w : List ℤ} {a : A}
@@ -30,14 +30,14 @@ pub data ComesTo {A : Type 0} : Form A → List ℤ → Cell ℕ → Type 0 wher
   past : {cell next : Cell ℕ} {goes : ℤ → Form A} {v : ℤ} {w : List ℤ} → IsValueOf cell v → ComesTo (goes v) w next
       → ComesTo (field cell goes) (v ∷ w) next
 
--- The spelling of values that go along a form, from a place on: their codes and the gaps, one behind another (7.1, 7.2).
+-- The spelling of values that go along a form, from a place on: their codes and the gaps, one after another (7.1, 7.2).
 abbrev pub bits_along : {A : Type 0} → Form A → ℕ → List ℤ → List Bool
 bits_along (done a) place w = []
 bits_along (field cell goes) place [] = []
 bits_along (field cell goes) place (v ∷ w) =
     code_of cell.coding place v ++ bits_along (goes v) (place + length (code_of cell.coding place v)) w
 
--- Behind a trailing nothing follows: no bit of a field behind it, and no rest.
+-- After a trailing nothing follows: no bit of a field after it, and no rest.
 abbrev pub Closes : {A : Type 0} → Form A → ℕ → List ℤ → List Bool → Type 0
 Closes (done a) place w rest = Unit {0}
 Closes (field cell goes) place [] rest = Unit {0}

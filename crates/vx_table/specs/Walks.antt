@@ -1,9 +1,9 @@
--- A walk over a form: the steps that a coder takes along it.
+-- A walk over a form: the steps that a coder takes along it. Our own.
 use Rattle.std.specs.Prelude.{ℕ, ℤ, Result, Ok, Err}
 use Rattle.vx_table.specs.declared.rows.Cell.{Cell}
 use Rattle.vx_table.specs.Forms.{Form, done, field}
 
--- What a coder answers to a field, and what it and its items become.
+-- A coder's answer to a field, and what it and its items become.
 abbrev pub Step : Type 0 → Type 0 → Type 0 → Type 1
 Step C I E = C → I → Cell ℕ → Result ℤ E → C → I → Type 0
 
@@ -15,7 +15,7 @@ pub data Walks {C I E A : Type 0} (step : Step C I E) : Form A → C → I → R
   refused : {cell : Cell ℕ} {goes : ℤ → Form A} {c d : C} {i j : I} {e : E} → step c i cell (Err e) d j
       → Walks step (field cell goes) c i (Err e) d j
 
--- the answer of a walk, with the scope that it left
+-- The answer of a walk, with the scope that it left.
 abbrev pub leaving : {A B E : Type 0} → A → Result B E → Result A E
 leaving a (Ok u) = Ok a
 leaving a (Err e) = Err e

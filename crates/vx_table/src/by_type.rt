@@ -1,6 +1,8 @@
-//! Tables by type: a value that holds nothing and whose type has the shape of a table's rows, with all their numbers in it, so that
-//! a walk over it is compiled to the steps of these rows alone. [`rows!`](crate::rows) makes one of a table's text. They are for structures that are walked over again and again, as the headers
-//! of slices; a table that is seldom walked over is smaller as an array.
+//! Tables as types. A value of such a type holds nothing, and its type contains all rows of the table, so that a walk over
+//! it is compiled to the steps of these rows only.
+//!
+//! [`rows!`](crate::rows) makes one from the text of a table. Use them for structures that are walked very often, such as
+//! slice headers; for others, an array takes less code.
 
 ghost use Rattle.std.specs.Prelude.{◌≡◌, ◌∷◌, ⊤};
 ghost use Rattle.vx_table.specs.declared.rows.Presence.TheVariants.{When, Repeat};
@@ -21,7 +23,7 @@ use std::alloc::AllocError;
 
 // ---- fields
 
-/// Codes one field at a scope, in a function of its own, so that what walks are compiled to stays small.
+/// Codes one field at a scope. It isn't inlined, so that the compiled walks stay small.
 #[inline(never)]
 fn code_cell_outlined<I, C: Coder<I>>(
     cell: Cell<u32>,
@@ -35,7 +37,7 @@ fn code_cell_outlined<I, C: Coder<I>>(
     code_cell(cell, scope, coder, items)
 }
 
-/// Codes one field, and gives the scope its value.
+/// Codes one field, and stores its value in the scope.
 #[inline(always)]
 fn code_field<I, C: Coder<I>>(
     row: &Cell<Formula>,
@@ -49,7 +51,7 @@ fn code_field<I, C: Coder<I>>(
     code_cell_outlined(cell, scope, coder, items)
 }
 
-/// Codes a field of one bit and any value, in a function of its own, and gives the scope its value.
+/// Codes a field of one bit without a range, and stores its value in the scope. It isn't inlined.
 #[inline(never)]
 fn code_flag<I, C: Coder<I>>(
     field: u16,
@@ -71,7 +73,7 @@ fn code_flag<I, C: Coder<I>>(
 
 // ---- blocks
 
-/// Codes rows where a formula isn't 0.
+/// Codes rows if a formula isn't 0.
 #[tactic(auto, using(crate::proofs::ByType::not_there, crate::proofs::Steps::here))]
 #[inline(always)]
 fn code_when<I, C: Coder<I>, B: Rows>(
@@ -89,7 +91,7 @@ fn code_when<I, C: Coder<I>, B: Rows>(
     block.code(scope, coder, items)
 }
 
-/// Codes rows so many times, with the number of the turn under the counter's name.
+/// Codes rows `times` times, with the number of the turn as the counter's number.
 #[inline(always)]
 fn code_repeated<I, C: Coder<I>, B: Rows>(
     counter: u16,
@@ -111,7 +113,7 @@ fn code_repeated<I, C: Coder<I>, B: Rows>(
 
 // ---- the rows of a table
 
-/// The rows of a table, by type.
+/// The rows of a table, as a type.
 pub trait Rows {
     ghost use Rattle.std.specs.Prelude.{List};
     ghost use Rattle.vx_table.specs.declared.rows.Row.{Row};
@@ -124,7 +126,7 @@ pub trait Rows {
     ///
     /// # Errors
     ///
-    /// The coder's, at the first field that it refuses.
+    /// The coder's error at the first field that it refuses.
     fn code<I, C: Coder<I>>(
         &self,
         scope: &mut Scope,
@@ -134,7 +136,7 @@ pub trait Rows {
         ensures { Walks C.step (form_of rows scope.old) coder.old items.old (leaving scope.new result) coder.new items.new };
 }
 
-/// No rows.
+/// A table without rows.
 #[derive(Clone, Copy)]
 pub struct NoRow;
 
@@ -155,11 +157,11 @@ impl Rows for NoRow {
     }
 }
 
-/// A field or a gap, and the rows behind it.
+/// A field or a gap, and the rows after it.
 pub struct FieldThen<F, R> {
     /// The field.
     pub field: F,
-    /// The rows behind it.
+    /// The rows after it.
     pub rest: R,
 }
 
@@ -193,9 +195,9 @@ impl<F: Constant<Cell<Formula>>, R: Rows> Rows for FieldThen<F, R> {
     }
 }
 
-/// A field of one bit and any value, and the rows behind it.
+/// A field of one bit without a range, and the rows after it.
 pub struct FlagThen<const FIELD: u16, const KEPT: bool, R> {
-    /// The rows behind it.
+    /// The rows after it.
     pub rest: R,
 }
 
@@ -230,11 +232,11 @@ impl<const FIELD: u16, const KEPT: bool, R: Rows> Rows for FlagThen<FIELD, KEPT,
     }
 }
 
-/// A name for a number, and the rows behind it.
+/// A name for a number, and the rows after it.
 pub struct NameThen<const NAME: u16, F, R> {
     /// The number.
     pub formula: F,
-    /// The rows behind it.
+    /// The rows after it.
     pub rest: R,
 }
 
@@ -269,13 +271,13 @@ impl<const NAME: u16, F: Constant<Formula>, R: Rows> Rows for NameThen<NAME, F, 
     }
 }
 
-/// A block of rows that is there where a formula isn't 0, and the rows behind it.
+/// A block of rows that is present if a formula isn't 0, and the rows after it.
 pub struct WhenThen<F, B, R> {
     /// The formula.
     pub holds: F,
     /// The block.
     pub block: B,
-    /// The rows behind it.
+    /// The rows after it.
     pub rest: R,
 }
 
@@ -310,13 +312,13 @@ impl<F: Constant<Formula>, B: Rows, R: Rows> Rows for WhenThen<F, B, R> {
     }
 }
 
-/// A block of rows that comes so many times, with a counter from 0, and the rows behind it.
+/// A block of rows that is repeated, with a counter from 0, and the rows after it.
 pub struct RepeatThen<const COUNTER: u16, F, B, R> {
-    /// How often the block comes.
+    /// The number of repetitions.
     pub times: F,
     /// The block.
     pub block: B,
-    /// The rows behind it.
+    /// The rows after it.
     pub rest: R,
 }
 
@@ -354,14 +356,14 @@ impl<const COUNTER: u16, F: Constant<Formula>, B: Rows, R: Rows> Rows
 
 // ---- the tables of a structure
 
-/// Where a table is always there.
+/// The condition of a table that is always present.
 pub const ALWAYS: Plain<NO_FIELD, 1> = Plain;
 
-/// Codes a table that is there where a formula isn't 0, as [`code_parts`](crate::code_parts) does.
+/// Codes a table that is present if a formula isn't 0, as [`code_parts`](crate::code_parts) does.
 ///
 /// # Errors
 ///
-/// The coder's, at the first field that it refuses.
+/// The coder's error at the first field that it refuses.
 #[inline(always)]
 pub fn code_section<I, C: Coder<I>, F: Constant<Formula>, T: Rows>(
     _holds: &F,

@@ -1,7 +1,7 @@
-//! Types that stand for what a row is made of: formulas, ranges, and fields with their codings, each known when a walk is compiled. A
-//! value of such a type holds nothing. Most are named as the variants that they stand for. A term is two numbers of the type that
-//! it is in: the field or name whose latest number it is, and the written number where that is [`NO_FIELD`]. So a table's type
-//! stays small enough for the toolchain, which doesn't take one of more than some hundred types inside one another.
+//! Types for the components of a row: formulas, ranges, and fields with their codings, each known when a walk is compiled.
+//! A value of such a type holds nothing. Most are named like the variants that they represent. A term is two numbers in the
+//! type: the field or name whose latest number it is, and the number to use if that is [`NO_FIELD`]. So a table's type
+//! stays small enough for the toolchain, which doesn't accept types nested some hundred levels deep.
 
 ghost use Rattle.std.specs.Prelude.{◌≡◌, ⊤};
 ghost use Rattle.vx_table.specs.declared.rows.Term.{Term};
@@ -15,22 +15,22 @@ ghost use Rattle.vx_table.specs.inner.ByType.{term_of};
 use crate::rows;
 use std::alloc::AllocError;
 
-/// A type that stands for a value.
+/// A type that represents a value.
 pub trait Constant<T> {
     /// The value.
     ghost value: { T };
 
-    /// The value.
+    /// Returns the value.
     fn get() -> T
         ensures { result ≡ value };
 }
 
 // ---- terms
 
-/// In the place of a field, where a term is a written number.
+/// Stands in place of a field if a term is a written number.
 pub const NO_FIELD: u16 = 65535;
 
-/// A term by the numbers of a type.
+/// Returns the term that two numbers of a type represent.
 #[inline(always)]
 fn term(of: u16, number: u32) -> rows::Term
     ensures { result ≡ term_of of number }
@@ -43,7 +43,7 @@ fn term(of: u16, number: u32) -> rows::Term
 
 // ---- formulas
 
-/// A term alone.
+/// A single term.
 #[derive(Clone, Copy)]
 pub struct Plain<const A_OF: u16, const A: u32>;
 
@@ -152,7 +152,7 @@ impl<const A_OF: u16, const A: u32> Constant<rows::Formula> for CeilLog2<A_OF, A
     }
 }
 
-/// Whether two are equal.
+/// A test whether two terms are equal.
 #[derive(Clone, Copy)]
 pub struct Equal<const A_OF: u16, const A: u32, const B_OF: u16, const B: u32>;
 
@@ -166,7 +166,7 @@ impl<const A_OF: u16, const A: u32, const B_OF: u16, const B: u32> Constant<rows
     }
 }
 
-/// Whether two differ.
+/// A test whether two terms differ.
 #[derive(Clone, Copy)]
 pub struct Differs<const A_OF: u16, const A: u32, const B_OF: u16, const B: u32>;
 
@@ -180,7 +180,7 @@ impl<const A_OF: u16, const A: u32, const B_OF: u16, const B: u32> Constant<rows
     }
 }
 
-/// Whether the first is below the second.
+/// A test whether the first term is below the second.
 #[derive(Clone, Copy)]
 pub struct Below<const A_OF: u16, const A: u32, const B_OF: u16, const B: u32>;
 
@@ -194,7 +194,7 @@ impl<const A_OF: u16, const A: u32, const B_OF: u16, const B: u32> Constant<rows
     }
 }
 
-/// Whether the first is at most the second.
+/// A test whether the first term is at most the second.
 #[derive(Clone, Copy)]
 pub struct AtMost<const A_OF: u16, const A: u32, const B_OF: u16, const B: u32>;
 
@@ -208,7 +208,7 @@ impl<const A_OF: u16, const A: u32, const B_OF: u16, const B: u32> Constant<rows
     }
 }
 
-/// Whether neither is 0.
+/// A test whether neither term is 0.
 #[derive(Clone, Copy)]
 pub struct Both<const A_OF: u16, const A: u32, const B_OF: u16, const B: u32>;
 
@@ -222,7 +222,7 @@ impl<const A_OF: u16, const A: u32, const B_OF: u16, const B: u32> Constant<rows
     }
 }
 
-/// Whether one of them isn't 0.
+/// A test whether at least one term isn't 0.
 #[derive(Clone, Copy)]
 pub struct Either<const A_OF: u16, const A: u32, const B_OF: u16, const B: u32>;
 
@@ -251,7 +251,7 @@ impl Constant<rows::Fault> for OutOfRange {
     }
 }
 
-/// A rule on profiles that a broken range breaks.
+/// A rule on profiles, for a value outside a range.
 #[derive(Clone, Copy)]
 pub struct Profile<const CODE: u8>;
 
@@ -264,7 +264,7 @@ impl<const CODE: u8> Constant<rows::Fault> for Profile<CODE> {
     }
 }
 
-/// A limit that a broken range passes.
+/// A limit, for a value outside a range.
 #[derive(Clone, Copy)]
 pub struct Limit<const CODE: u8>;
 
@@ -277,7 +277,7 @@ impl<const CODE: u8> Constant<rows::Fault> for Limit<CODE> {
     }
 }
 
-/// A rule on structures that a broken range breaks.
+/// A rule on structures, for a value outside a range.
 #[derive(Clone, Copy)]
 pub struct Structure<const CODE: u8>;
 
@@ -290,7 +290,7 @@ impl<const CODE: u8> Constant<rows::Fault> for Structure<CODE> {
     }
 }
 
-/// From `LOW` to the first; the second is the fault of any other.
+/// The range from `LOW` to the first argument; the second is the fault of any other value.
 pub struct InRange<const LOW: i32, H, F>(pub H, pub F);
 
 impl<const LOW: i32, H: Copy, F: Copy> Copy for InRange<LOW, H, F> {}
@@ -320,7 +320,7 @@ impl<const LOW: i32, H: Constant<rows::Formula>, F: Constant<rows::Fault>> Const
     }
 }
 
-/// From 0 up to, and without, the first; the second is the fault of any other.
+/// The range from 0 to below the first argument; the second is the fault of any other value.
 pub struct BelowBound<B, F>(pub B, pub F);
 
 impl<B: Copy, F: Copy> Copy for BelowBound<B, F> {}
@@ -350,7 +350,7 @@ impl<B: Constant<rows::Formula>, F: Constant<rows::Fault>> Constant<rows::Limits
 
 // ---- fields and gaps
 
-/// A field of any value by its coding.
+/// Returns a field without a range, with its coding.
 #[inline(always)]
 fn any(field: u16, kept: bool, coding: rows::Coding<rows::Formula>) -> rows::Cell<rows::Formula>
     ensures { result ≡ record { field = field; kept = kept; coding = coding; limits = ranges.Any } }
@@ -445,7 +445,7 @@ impl<const FIELD: u16, const KEPT: bool> Constant<rows::Cell<rows::Formula>>
     }
 }
 
-/// The same, and the end of the bits.
+/// A one, and zeros up to the byte boundary, at which the bits end.
 #[derive(Clone, Copy)]
 pub struct Trailing<const FIELD: u16, const KEPT: bool>;
 
@@ -459,7 +459,7 @@ impl<const FIELD: u16, const KEPT: bool> Constant<rows::Cell<rows::Formula>>
     }
 }
 
-/// No bits: a field that is absent and yet stands, as 0, among the kept ones.
+/// No bits: a field that is absent but counts, with value 0, among the kept ones.
 #[derive(Clone, Copy)]
 pub struct Absent<const FIELD: u16, const KEPT: bool>;
 
@@ -487,7 +487,7 @@ impl<const FIELD: u16, const KEPT: bool> Constant<rows::Cell<rows::Formula>>
     }
 }
 
-/// A field with a range: the first, with the second in place of its own.
+/// A field with a range: the first argument with the second as its range.
 pub struct Limited<C, L>(pub C, pub L);
 
 impl<C: Copy, L: Copy> Copy for Limited<C, L> {}

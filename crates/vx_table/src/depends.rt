@@ -1,4 +1,4 @@
-//! What the fields of a table depend on: a test over its rows.
+//! The fields on which those of a table depend: a test over its rows.
 
 ghost use Rattle.std.specs.Prelude.{◌≡◌, ◌&&◌, IsTrue};
 ghost use Rattle.vx_table.specs.Forms.{form_of};
@@ -12,7 +12,7 @@ use crate::parts::Part;
 use crate::rows::{Cell, Coding, Formula, Limits, Presence, Row, Term};
 use crate::walk::{has_value, split_block};
 
-/// Whether a set of fields and names, a list of them, has this one.
+/// Returns whether a list of fields and names contains `n`.
 #[inline(always)]
 pub(crate) fn has(names: &[u16], n: u16) -> bool
     ensures { result ≡ sets.has names.now n }
@@ -20,14 +20,14 @@ pub(crate) fn has(names: &[u16], n: u16) -> bool
     names.contains(&n)
 }
 
-/// A set in a test: a list of names, or a list with the names of another set behind it.
+/// A set of names in a test: a list, or a list followed by another set.
 #[derive(Drop)]
 enum Names<'a> {
     Listed(&'a [u16]),
     More(&'a [u16], &'a Names<'a>),
 }
 
-/// Whether such a set has this name.
+/// Returns whether such a set contains `n`.
 #[tactic(auto, unfolding(crate::specs::inner::Names::listed), using(crate::proofs::Agreeing::has_either))]
 fn among(names: &Names<'_>, n: u16) -> bool
     ensures { result ≡ sets.has (listed names.now) n }
@@ -38,7 +38,7 @@ fn among(names: &Names<'_>, n: u16) -> bool
     }
 }
 
-/// Whether a term reads only known names.
+/// Returns whether a term reads only known names.
 fn knows(known: &Names<'_>, term: Term) -> bool
     ensures { result ≡ test.knows (listed known.now) term }
 {
@@ -48,14 +48,14 @@ fn knows(known: &Names<'_>, term: Term) -> bool
     }
 }
 
-/// Whether two terms read only known names.
+/// Returns whether two terms read only known names.
 fn knows_both(known: &Names<'_>, a: Term, b: Term) -> bool
     ensures { result ≡ (test.knows (listed known.now) a && test.knows (listed known.now) b) }
 {
     knows(known, a) && knows(known, b)
 }
 
-/// Whether a formula reads only known names.
+/// Returns whether a formula reads only known names.
 #[tactic(auto, unfolding(crate::specs::Claims::knows_formula))]
 fn knows_formula(known: &Names<'_>, formula: Formula) -> bool
     ensures { result ≡ test.knows_formula (listed known.now) formula }
@@ -76,7 +76,7 @@ fn knows_formula(known: &Names<'_>, formula: Formula) -> bool
     }
 }
 
-/// Whether a field's width is known.
+/// Returns whether a field's width is known.
 #[tactic(auto, unfolding(crate::specs::Claims::knows_width))]
 fn knows_width(known: &Names<'_>, coding: Coding<Formula>) -> bool
     ensures { result ≡ test.knows_width (listed known.now) coding }
@@ -87,7 +87,7 @@ fn knows_width(known: &Names<'_>, coding: Coding<Formula>) -> bool
     }
 }
 
-/// Whether a field's range is known.
+/// Returns whether a field's range is known.
 #[tactic(auto, unfolding(crate::specs::Claims::knows_range))]
 fn knows_range(known: &Names<'_>, limits: Limits<Formula>) -> bool
     ensures { result ≡ test.knows_range (listed known.now) limits }
@@ -99,7 +99,7 @@ fn knows_range(known: &Names<'_>, limits: Limits<Formula>) -> bool
     }
 }
 
-/// Whether it is known how often a block is there.
+/// Returns whether the number of a block's repetitions is known.
 #[tactic(auto, unfolding(crate::specs::Claims::knows_presence))]
 fn knows_presence(known: &Names<'_>, presence: Presence) -> bool
     ensures { result ≡ test.knows_presence (listed known.now) presence }
@@ -110,7 +110,7 @@ fn knows_presence(known: &Names<'_>, presence: Presence) -> bool
     }
 }
 
-/// Whether a block gives no shown counter a number.
+/// Returns whether a block gives no shown counter a number.
 #[tactic(auto, unfolding(crate::specs::Claims::hides_counter))]
 fn hides_counter(shown: &Names<'_>, presence: Presence) -> bool
     ensures { result ≡ test.hides_counter (listed shown.now) presence }
@@ -121,7 +121,7 @@ fn hides_counter(shown: &Names<'_>, presence: Presence) -> bool
     }
 }
 
-/// Whether a row is no shown field, and gives no shown name a number.
+/// Returns whether a row is no shown field, and gives no shown name a number.
 #[tactic(auto, unfolding(crate::specs::Claims::hides_row))]
 fn hides_row(shown: &Names<'_>, row: Row) -> bool
     ensures { result ≡ test.hides_row (listed shown.now) row }
@@ -133,7 +133,7 @@ fn hides_row(shown: &Names<'_>, row: Row) -> bool
     }
 }
 
-/// Whether rows have no shown field, and give no shown name a number.
+/// Returns whether rows have no shown field, and give no shown name a number.
 fn hides(shown: &Names<'_>, rows: &[Row]) -> bool
     ensures { result ≡ test.hides (listed shown.now) rows.now }
 {
@@ -145,7 +145,7 @@ fn hides(shown: &Names<'_>, rows: &[Row]) -> bool
     true
 }
 
-/// Whether a shown field's width and range are known.
+/// Returns whether a shown field's width and range are known.
 fn field_depends(shown: &Names<'_>, known: &Names<'_>, cell: Cell<Formula>) -> bool
     ensures { result ≡ test.field_depends (listed shown.now) (listed known.now) cell }
 {
@@ -155,7 +155,7 @@ fn field_depends(shown: &Names<'_>, known: &Names<'_>, cell: Cell<Formula>) -> b
     knows_width(known, cell.coding) && knows_range(known, cell.limits)
 }
 
-/// Whether a shown name's formula is known.
+/// Returns whether a shown name's formula is known.
 fn name_depends(shown: &Names<'_>, known: &Names<'_>, name: u16, formula: Formula) -> bool
     ensures { result ≡ test.name_depends (listed shown.now) (listed known.now) name formula }
 {
@@ -165,7 +165,8 @@ fn name_depends(shown: &Names<'_>, known: &Names<'_>, name: u16, formula: Formul
     knows_formula(known, formula)
 }
 
-/// Whether a test over rows that come behind a name, and over parts behind these, holds with the name known, if it is shown.
+/// Returns whether the test holds for the rows after a name, and for the parts after these, with the name known if it is
+/// shown.
 #[cycle(claims)]
 fn behind_name(
     shown: &Names<'_>,
@@ -182,7 +183,8 @@ fn behind_name(
     rows_depend(shown, known, rows, parts)
 }
 
-/// Whether the shown fields and names of rows, and of parts behind them, depend only on what is known where they stand.
+/// Returns whether the shown fields and names of rows, and of the parts after them, depend only on what is known before
+/// them.
 #[cycle(claims)]
 fn rows_depend(shown: &Names<'_>, known: &Names<'_>, rows: &[Row], parts: &[Part<'_>]) -> bool
     ensures { result ≡ chain (listed shown.now) (listed known.now) rows.now (sections_of parts.now) }
@@ -214,14 +216,15 @@ fn rows_depend(shown: &Names<'_>, known: &Names<'_>, rows: &[Row], parts: &[Part
     }
 }
 
-/// Whether a block has no shown field, and gives no shown name a number.
+/// Returns whether a block has no shown field, and gives no shown name a number.
 fn hides_block(shown: &Names<'_>, presence: Presence, block: &[Row]) -> bool
     ensures { result ≡ (test.hides_counter (listed shown.now) presence && test.hides (listed shown.now) block.now) }
 {
     hides_counter(shown, presence) && hides(shown, block)
 }
 
-/// Whether a block's presence is known and its rows depend on what is known within it, or all that it has is hidden.
+/// Returns whether a block's presence is known and its rows depend on what is known within it, or everything in it is
+/// hidden.
 #[cycle(claims)]
 fn block_depends(shown: &Names<'_>, known: &Names<'_>, presence: Presence, block: &[Row]) -> bool
     ensures { result ≡ test.rows_depend (listed shown.now) (listed known.now) presence block.now }
@@ -238,7 +241,7 @@ fn block_depends(shown: &Names<'_>, known: &Names<'_>, presence: Presence, block
     }
 }
 
-/// Whether the shown fields and names of a structure's parts depend only on what is known before each.
+/// Returns whether the shown fields and names of a structure's parts depend only on what is known before each.
 #[cycle(claims)]
 fn parts_depend(shown: &Names<'_>, known: &Names<'_>, parts: &[Part<'_>]) -> bool
     ensures { result ≡ test.sections_chain (listed shown.now) (listed known.now) (sections_of parts.now) }
@@ -252,7 +255,7 @@ fn parts_depend(shown: &Names<'_>, known: &Names<'_>, parts: &[Part<'_>]) -> boo
     block_depends(shown, known, part.presence, part.rows) && parts_depend(shown, known, more)
 }
 
-/// Whether a table of a structure is there whatever the scope.
+/// Returns whether a table of a structure is present at every scope.
 #[tactic(auto, unfolding(crate::specs::Claims::comes_always))]
 fn comes_always(presence: Presence) -> bool
     ensures { result ≡ test.comes_always presence }
@@ -263,10 +266,12 @@ fn comes_always(presence: Presence) -> bool
     }
 }
 
-/// Whether the shown fields and names of a table depend on the given numbers of the scope alone, as far as a test
-/// over the rows tells: a width, a range or a shown name's formula uses a given number, or one that the table gave
-/// a shown field or name before it in the same block or around it, and a block whose presence uses others hides all
-/// that it has.
+/// Returns whether the shown fields and names of a table depend only on the given numbers of the scope, by a test of the
+/// rows.
+///
+/// The test allows these numbers in a width, a range, or a shown name's formula: a given number, or one that the table gave
+/// a shown field or name before it in the same block or around it. A block whose presence uses other numbers must hide
+/// everything in it.
 pub fn depends_only_on(table: &[Row], given: &[u16], shown: &[u16]) -> bool
     ensures test { result ≡ test.depends_only_on given.now shown.now table.now }
     ensures depends { IsTrue result → DependsOnlyOn given.now shown.now (form_of table.now) }
@@ -280,8 +285,10 @@ pub fn depends_only_on(table: &[Row], given: &[u16], shown: &[u16]) -> bool
     )
 }
 
-/// Whether the shown fields and names of a structure's parts depend on the given numbers of the scope alone; a
-/// number that a part gives outside its blocks is known behind it, where the part is always there.
+/// Returns whether the shown fields and names of a structure's parts depend only on the given numbers of the scope.
+///
+/// The test is that of [`depends_only_on`]. A number that a part sets outside its blocks is known after it if the part is
+/// always present.
 pub fn parts_depend_only_on(parts: &[Part<'_>], given: &[u16], shown: &[u16]) -> bool
     ensures test { result ≡ test.sections_depend_only_on given.now shown.now (sections_of parts.now) }
     ensures depends { IsTrue result → DependsOnlyOn given.now shown.now (sections_form (sections_of parts.now)) }

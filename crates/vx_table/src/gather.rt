@@ -1,4 +1,4 @@
-//! Items that a rewritten structure is put together of: those of the fields in a list, those of all others, and stated ones.
+//! Items for a rewritten structure: those of listed fields, those of all other fields, and new ones.
 
 ghost use Rattle.std.specs.Prelude.{◌≡◌, pos, [], ◌∷◌, ◌++◌, OnOk, IfOk};
 ghost use Rattle.vx_table.specs.Shown.{shown_items};
@@ -8,11 +8,11 @@ use crate::depends::has;
 use std::alloc::{AllocError, Global};
 use vx_bits::{Fields, Item};
 
-/// The items of the fields with these names, in order.
+/// Returns the items of the fields in `names`, in order.
 ///
 /// # Errors
 ///
-/// Where memory runs out.
+/// `AllocError` if memory runs out.
 #[tactic(auto, using(crate::proofs::Gathering::shown_more, crate::proofs::Gathering::shown_passed))]
 pub fn items_of(alloc: Global, items: &Fields, names: &[u16]) -> Result<Fields, AllocError>
     ensures { IfOk result (λ shown. shown ≡ shown_items names.now items.now) }
@@ -27,11 +27,11 @@ pub fn items_of(alloc: Global, items: &Fields, names: &[u16]) -> Result<Fields, 
     Ok(shown)
 }
 
-/// The items of all fields but those with these names, in order.
+/// Returns the items of all fields except those in `names`, in order.
 ///
 /// # Errors
 ///
-/// Where memory runs out.
+/// `AllocError` if memory runs out.
 #[tactic(auto, using(crate::proofs::Gathering::other_more, crate::proofs::Gathering::other_passed))]
 pub fn others_of(alloc: Global, items: &Fields, names: &[u16]) -> Result<Fields, AllocError>
     ensures { IfOk result (λ others. others ≡ other_items names.now items.now) }
@@ -46,7 +46,7 @@ pub fn others_of(alloc: Global, items: &Fields, names: &[u16]) -> Result<Fields,
     Ok(others)
 }
 
-/// An item of a field.
+/// Returns an item of a field.
 pub fn item(field: u16, number: u32) -> Item
     ensures { result ≡ record { field = field; value = pos number } }
 {
@@ -56,11 +56,11 @@ pub fn item(field: u16, number: u32) -> Item
     }
 }
 
-/// Appends an item that stands only where something holds.
+/// Appends an item if `holds` is true.
 ///
 /// # Errors
 ///
-/// Where memory runs out.
+/// `AllocError` if memory runs out.
 pub fn push_where(holds: bool, item: Item, into: &mut Fields) -> Result<(), AllocError>
     ensures { OnOk result (into.new ≡ into.old ++ where_so holds (item ∷ [])) }
 {

@@ -1,4 +1,4 @@
-//! Sifting by a table: from all items of a structure to those of its kept fields.
+//! Selection by a table: from all items of a structure to those of its kept fields.
 
 ghost use Rattle.std.specs.Prelude.{◌≡◌, ◌++◌, OnOk, OnErr};
 ghost use Rattle.vx_table.specs.Forms.{form_of};
@@ -15,7 +15,7 @@ use crate::writer::{SpellError, Unwritten, take_value};
 use std::alloc::AllocError;
 use vx_bits::{Fields, Item};
 
-/// Whether a coding is that of a field, or of an absent one that stands among the kept ones.
+/// Returns whether a coding is that of a field, or of an absent one that counts among the kept ones.
 #[tactic(auto, unfolding(crate::specs::Kept::stands_for_field))]
 #[inline(always)]
 pub(crate) fn stands_for_field<N: Copy>(coding: Coding<N>) -> bool
@@ -68,13 +68,16 @@ impl<'a> Coder<Fields> for Unwritten<'a> {
     }
 }
 
-/// Takes the items of a value of a table at a scope, appends those of its kept fields to `into`, and gives the scope
-/// the numbers taken. A `fill` row is kept as an item with value 0.
+/// Consumes from `items` the items of one value of `table`, and appends the kept ones (fields without a star) to `into`.
+///
+/// A `fill` row gives an item with value 0. `scope` receives the numbers, as if the table had been read.
 ///
 /// # Errors
 ///
-/// `NoValue` where the items don't begin with those of a value of the table; want of memory. `into` has then gained the
-/// kept items of the fields before one, and `items` begins with what was to be taken there; nothing is said of `scope`.
+/// - `NoValue` if `items` doesn't start with the items of a value of `table`.
+/// - `Memory` if memory runs out.
+///
+/// After an error, `into` has the kept items up to the field that failed, `items` starts at that field, and `scope` is unspecified.
 pub fn keep_table(
     table: &[Row],
     scope: &mut Scope,
@@ -87,13 +90,14 @@ pub fn keep_table(
     code_table(table, scope, items, into)
 }
 
-/// Takes the items of a value of a structure's parts, as [`keep_table`] takes those of a table.
+/// Consumes from `items` the items of one value of a structure's parts, as [`keep_table`] does for one table.
 ///
 /// # Errors
 ///
-/// `NoValue` where the items don't begin with those of a value of the structure; want of memory. `into` has then gained
-/// the kept items of the fields before one, and `items` begins with what was to be taken there; nothing is said of
-/// `scope`.
+/// - `NoValue` if `items` doesn't start with the items of a value of the structure.
+/// - `Memory` if memory runs out.
+///
+/// After an error, `into` has the kept items up to the field that failed, `items` starts at that field, and `scope` is unspecified.
 pub fn keep_parts(
     parts: &[Part<'_>],
     scope: &mut Scope,

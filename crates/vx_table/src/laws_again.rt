@@ -1,24 +1,25 @@
-//! Laws of the same bits again: functions that do nothing, each with a law as its contract.
+//! Laws of reading the same bits again. A law is a function without a body whose contract states it.
 ghost use Rattle.vx_table.specs.laws.Again.{FollowsAgain, ReadsAgain, StopsAgain, AnswersAgain, TablesShow, SectionsShow};
 
-/// Values that follow one of two alike forms, all of whose fields are shown, follow the other, with the same items and
-/// bits, to an end that agrees.
+/// If two forms are alike and all their fields are shown, then values that follow the one follow the other. The items and
+/// bits are the same, and the ends agree.
 pub fn follows_again()
     ensures { FollowsAgain }
 {}
 
-/// Bits that spell values of the one spell them of the other, and so up to a field that comes next.
+/// If bits code values of one of two such forms, then they code them for the other, and so do bits up to a field.
 pub fn reads_again()
     ensures values { ReadsAgain }
     ensures fronts { StopsAgain }
 {}
 
-/// A reader's answer, whole, to the same bits is the same: the same items and rest, or the same refusal.
+/// If two such forms read the same bits, then a reader's whole answer is the same: the same items and rest, or the same
+/// refusal.
 pub fn answers_again()
     ensures { AnswersAgain }
 {}
 
-/// All fields of tables are shown where each row passes the test.
+/// If each row of tables passes the test, then all their fields are shown.
 pub fn tables_show()
     ensures table { TablesShow }
     ensures sections { SectionsShow }

@@ -1,54 +1,54 @@
-//! Laws of what fields depend on: functions that do nothing, each with a law as its contract.
+//! Laws of what fields depend on. A law is a function without a body whose contract states it.
 ghost use Rattle.vx_table.specs.laws.Chains.{TablesCarry, SectionsCarry, SetsCarry, StepsCarry, CarriesTogether, CarriesPresent, ChainsDepend};
 ghost use Rattle.vx_table.specs.Shown.{CellsFollowItems, CellsFollowKept, KeptTellsKept, ScopesFollowItems, AlikeTogether};
 
-/// Two values of alike forms with the same items of shown fields have the same shown fields, each with the same
-/// coding and range, and leave scopes that agree.
+/// If values of two alike forms have the same items of shown fields, then they have the same shown fields, each with the
+/// same coding and range, and leave scopes that agree.
 pub fn cells_follow_items()
     ensures { CellsFollowItems }
 {}
 
-/// Loading items whose shown ones are the same into scopes that agree gives scopes that agree.
+/// If items have the same shown items and are loaded into scopes that agree, then the scopes agree again.
 pub fn scopes_follow_items()
     ensures { ScopesFollowItems }
 {}
 
-/// Alike structures behind alike ones are alike.
+/// If structures are alike and those before them are alike, then both together are alike.
 pub fn alike_together()
     ensures { AlikeTogether }
 {}
 
-/// Two values of alike forms that keep exactly the shown fields, with the same kept items, have the same kept
+/// If values of two alike forms that keep exactly the shown fields have the same kept items, then they have the same kept
 /// fields, each with the same coding and range, and leave scopes that agree.
 pub fn cells_follow_kept()
     ensures { CellsFollowKept }
 {}
 
-/// Kept fields depend on kept fields and on the given numbers alone, where a structure keeps what is shown and
-/// that depends only on the given.
+/// If a structure keeps what is shown, and what is shown depends only on the given numbers, then the kept fields depend
+/// only on kept fields and the given numbers.
 pub fn kept_tells_kept()
     ensures { KeptTellsKept }
 {}
 
-/// What is known goes along tables on which the test holds.
+/// If the test holds for tables, then numbers that are known before them are known after them.
 pub fn tables_carry()
     ensures table { TablesCarry }
     ensures sections { SectionsCarry }
 {}
 
-/// It goes along a number put under a name, and along any step on the scope that keeps scopes in agreement.
+/// If a step sets a number under a name, or keeps scopes in agreement, then what is known before it is known after it.
 pub fn steps_carry()
     ensures set { SetsCarry }
     ensures step { StepsCarry }
 {}
 
-/// It goes along one part behind another, and past a part of which it is known how often it is there.
+/// If parts carry what is known, then so do one part after another, and a part whose number of repetitions is known.
 pub fn chains_carry()
     ensures together { CarriesTogether }
     ensures present { CarriesPresent }
 {}
 
-/// What is walked so depends on the given numbers alone.
+/// If a walk carries what is known in this way, then it depends only on the given numbers.
 pub fn chains_depend()
     ensures { ChainsDepend }
 {}

@@ -1,14 +1,14 @@
-//! Laws of fields that numbers hide: functions that do nothing, each with laws as its contract.
+//! Laws of fields that numbers hide. A law is a function without a body whose contract states it.
 ghost use Rattle.vx_table.specs.laws.Absence.{TablesHide, SectionsHide, HiddenTogether, HiddenPresent, SetsHide, LeftHide, HiddenHaveNoItems};
 
-/// Where some numbers are 0, a table has no field that stands under conditions which are then 0, and so has a structure.
+/// If some numbers are 0, then a table has no field under conditions which are then 0, and neither has a structure.
 pub fn fields_hidden()
     ensures table { TablesHide }
     ensures sections { SectionsHide }
 {}
 
-/// So it is of parts, one behind another, of one that is there so often, of a name that is given a number, and of what leaves
-/// all of these alone.
+/// If parts hide fields, then so do one part after another, a repeated part, a name that is given a number, and a form that
+/// leaves all of these unchanged.
 pub fn hidden_parts()
     ensures together { HiddenTogether }
     ensures present { HiddenPresent }
@@ -16,7 +16,7 @@ pub fn hidden_parts()
     ensures left { LeftHide }
 {}
 
-/// A structure has no items of fields that are hidden.
+/// If fields are hidden, then a structure has no items of them.
 pub fn hidden_have_no_items()
     ensures { HiddenHaveNoItems }
 {}

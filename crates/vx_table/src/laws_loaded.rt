@@ -1,21 +1,22 @@
-//! Laws of the numbers that items give fields: functions that do nothing, each with a law as its contract.
+//! Laws of the numbers that items give to fields. A law is a function without a body whose contract states it.
 ghost use Rattle.vx_table.specs.Loaded.{NumberOfLast, NumberOfNone, NumberOfShown, LoadsTogether, TablesLoad, SectionsLoad, ItemsBelow, NumberBelow, TablesStayBelow, SectionsStayBelow};
 
-/// A field's number is its last item's, or 0 where it has none, and that of the items of any set that has the field.
+/// If a field has items, then its number is that of its last item, and otherwise 0; the items of any set that has the field
+/// give it the same number.
 pub fn number_of_items()
     ensures last { NumberOfLast }
     ensures none { NumberOfNone }
     ensures shown { NumberOfShown }
 {}
 
-/// Where a structure ends, fields have the numbers that its items give them.
+/// If a structure has ended, then fields have the numbers that its items give them.
 pub fn items_load()
     ensures table { TablesLoad }
     ensures sections { SectionsLoad }
     ensures together { LoadsTogether }
 {}
 
-/// A field's items and its number are below a bound that its code or its range gives.
+/// If a field's code or its range gives a bound, then the field's items and its number are below it.
 pub fn number_below()
     ensures items { ItemsBelow }
     ensures form { NumberBelow }

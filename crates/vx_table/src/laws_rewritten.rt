@@ -1,31 +1,32 @@
-//! Laws of rewriting: functions that do nothing, each with a law as its contract.
+//! Laws of rewriting. A law is a function without a body whose contract states it.
 ghost use Rattle.vx_table.specs.Rewrites.{WhatGoesIsRewritten, CopiedRewrites, ReplacedRewrites, MixedRewrites, GivenGoes, RewritesTogether, AbsentRewrites, PresentRewrites, NothingRewrites, ValuesTake, TakesAgain, TakesTogether, TurnsTake, RewrittenIsRead, TablesLeave, SectionsLeave, LeavesTogether, LeavesPresent, LeavesAgree, SectionsTogether};
 ghost use Rattle.vx_table.specs.Sent.{SentAsRewritten, SendsRewritten};
 ghost use Rattle.vx_table.specs.Rewritten.{RewritesOneWay, RewrittenKeeps, SectionsFillNone, MakesRewritten, MadeIsRewritten};
 
-/// The items of some fields and those of the others tell the structure that has both.
+/// If two values have the same items of some fields and of all others, then they are the same structure.
 pub fn rewrites_one_way()
     ensures { RewritesOneWay }
 {}
 
-/// A rewriter that is given these makes that structure, unless memory runs out; and what it makes of all is one.
+/// If a rewriter is given these items, then it makes that structure unless memory runs out; and what it makes of all items
+/// is that structure.
 pub fn makes_rewritten()
     ensures makes { MakesRewritten }
     ensures made { MadeIsRewritten }
 {}
 
-/// What is written of a rewritten structure is read as it: with the same items of the fields that were taken over.
+/// If a rewritten structure is written, then it is read again, with the same items of the fields that were copied.
 pub fn rewritten_is_read()
     ensures { RewrittenIsRead }
 {}
 
-/// Where a structure can be rewritten, there is a rewritten one.
+/// If a structure can be rewritten, then a rewritten one exists.
 pub fn what_goes_is_rewritten()
     ensures { WhatGoesIsRewritten }
 {}
 
-/// A part can be rewritten whose fields are all taken over, one whose fields are all replaced, and one of both kinds
-/// that admits the others or their given values; one that is absent or there alike; and one part behind another.
+/// If all fields of a part are copied, or all are replaced, or a part of both kinds admits the others or their given
+/// values, then it can be rewritten. So can a part that is absent or present in both, and one part after another.
 pub fn parts_rewrite()
     ensures copied { CopiedRewrites }
     ensures replaced { ReplacedRewrites }
@@ -37,8 +38,8 @@ pub fn parts_rewrite()
     ensures together { RewritesTogether }
 {}
 
-/// What stands in place of a part: given values; what goes through at one scope, at each that agrees; one part behind
-/// another; and the turns of a block.
+/// If a form takes given values in place of a part, then so does each that agrees with it, one part after another, and the
+/// turns of a block.
 pub fn items_take()
     ensures values { ValuesTake }
     ensures again { TakesAgain }
@@ -46,7 +47,7 @@ pub fn items_take()
     ensures turns { TurnsTake }
 {}
 
-/// Structures leave names alone where the test over their rows holds; so do parts, one behind another or on a
+/// If the test holds for the rows of structures, then they leave names unchanged. So do parts, one after another or on a
 /// condition, and at the end these names have the numbers that they had.
 pub fn parts_leave()
     ensures table { TablesLeave }
@@ -56,18 +57,18 @@ pub fn parts_leave()
     ensures agree { LeavesAgree }
 {}
 
-/// Sections are one structure behind another, wherever they are cut.
+/// If sections are cut anywhere, then they are one structure after another.
 pub fn sections_together()
     ensures { SectionsTogether }
 {}
 
-/// What is rewritten has the same kept items, where each kept field is taken over.
+/// If each kept field is copied, then the rewritten structure has the same kept items.
 pub fn rewritten_keeps()
     ensures keeps { RewrittenKeeps }
     ensures test { SectionsFillNone }
 {}
 
-/// A sender does what a rewriter does and a writer behind it; so it writes the rewritten structure.
+/// If a sender is used, then it does what a rewriter followed by a writer does; so it writes the rewritten structure.
 pub fn sent_as_rewritten()
     ensures both { SentAsRewritten }
     ensures writes { SendsRewritten }

@@ -1,8 +1,8 @@
-//! A law of how many bits are spelled: a function that does nothing, with the law as its contract.
+//! A law of the number of bits of a structure. A law is a function without a body whose contract states it.
 ghost use Rattle.vx_table.specs.laws.Sizes.{TablesAreShort, SectionsAreShort};
 
-/// The values of a table have at most so many bits as its rows tell, given bounds on the numbers of fields and names that the
-/// rows keep.
+/// If the numbers of fields and names have bounds that the rows keep, then the values of a table have at most as many bits
+/// as its rows give.
 pub fn bits_at_most()
     ensures table { TablesAreShort }
     ensures sections { SectionsAreShort }

@@ -1,14 +1,14 @@
-//! `table!`, which writes rows in the look of H.266's syntax tables, and `parts!`, which puts tables together; `rows!`,
-//! which writes a table by type.
+//! `table!` writes rows in the form of H.266's syntax tables, `parts!` puts tables together, and `rows!` writes a table as
+//! a type.
 
-/// A term: `4`, or `cbr_flag` for the latest number of that field, and `LOWER` for that of a name.
+/// Writes a term: `4`, or `cbr_flag` for the latest number of that field, and `LOWER` for that of a name.
 #[macro_export]
 macro_rules! term {
     ($number:literal) => { $crate::Term::Number($number) };
     ($of:ident) => { $crate::Term::Latest($of) };
 }
 
-/// A formula of so many terms: a value, or the type that stands for it.
+/// Writes a formula of its terms, as a value or as the type that represents it.
 #[macro_export]
 macro_rules! formula_of {
     (value $variant:ident $($terms:tt)+) => { $crate::Formula::$variant($($crate::term!($terms)),+) };
@@ -22,7 +22,7 @@ macro_rules! formula_of {
     (@ $variant:ident [$($numbers:tt)*]) => { $crate::by_type::$variant::<$($numbers)*> };
 }
 
-/// A formula: a term, or one in parentheses, as `(sps_log2_ctu_size_minus5 + 5)` and `(not cbr_flag)`.
+/// Writes a formula: a term, or one in parentheses, such as `(sps_log2_ctu_size_minus5 + 5)` and `(not cbr_flag)`.
 #[macro_export]
 macro_rules! formula {
     ($as:ident ($($inner:tt)+)) => { $crate::formula!(@ $as $($inner)+) };
@@ -45,15 +45,15 @@ macro_rules! formula {
     (@ $as:ident $a:tt or $b:tt) => { $crate::formula_of!($as Either $a $b) };
 }
 
-/// The name of a broken range: `OutOfRange`, or one with a number, as `Limit(TOO_LARGE)`.
+/// Writes the fault of a broken range: `OutOfRange`, or one with a number, such as `Limit(TOO_LARGE)`.
 #[macro_export]
 macro_rules! fault {
     (value $fault:ident $(($code:tt))?) => { $crate::Fault::$fault $(($code))? };
     (by_type $fault:ident $(($code:tt))?) => { $crate::by_type::$fault $(::<$code>)? };
 }
 
-/// What values a row takes: `in 0..=6` or `below SLICES`, with `else Profile(CHROMA_FORMAT)` where a broken range has a
-/// name, and `multiple 8 upto 16384 else Limit(TOO_LARGE)` for a picture's size.
+/// Writes the range of a row: `in 0..=6` or `below SLICES`, with `else Profile(CHROMA_FORMAT)` if the fault has a name, and
+/// `multiple 8 upto 16384 else Limit(TOO_LARGE)` for a picture's size.
 #[macro_export]
 macro_rules! limits {
     (value) => { $crate::Limits::Any };
@@ -93,7 +93,7 @@ macro_rules! limits {
     };
 }
 
-/// A field or a gap by its number, whether it is kept, and its coding: `Golomb`, or `Fixed` with a formula.
+/// Writes a field or a gap by its number, whether it is kept, and its coding: `Golomb`, or `Fixed` with a formula.
 #[macro_export]
 macro_rules! coded {
     (value $field:ident, $kept:literal, $coding:ident $(($width:tt))?, [$($limits:tt)*]) => {
@@ -118,7 +118,7 @@ macro_rules! coded {
     };
 }
 
-/// A field, by how its row is coded: `u(7)`, `u(sps_subpic_id_len_minus1 + 1)`, `ue`, `se`, or one bit where nothing is said.
+/// Writes a field as its row codes it: `u(7)`, `u(sps_subpic_id_len_minus1 + 1)`, `ue`, `se`, or one bit by default.
 #[macro_export]
 macro_rules! cell {
     ($as:ident $field:ident, $kept:literal, [], $limits:tt) => {
@@ -135,7 +135,7 @@ macro_rules! cell {
     };
 }
 
-/// A gap or a field without bits, by the word that its row begins with.
+/// Writes a gap or a field without bits, by the first word of its row.
 #[macro_export]
 macro_rules! gap {
     ($as:ident zeros $field:ident) => { $crate::coded!($as $field, false, Zeros, []) };
@@ -148,7 +148,7 @@ macro_rules! gap {
     };
 }
 
-/// How many rows there are, with those inside blocks: a row is counted once for each block that it stands in.
+/// Counts rows, with those inside blocks: a row is counted once for each block that contains it.
 #[macro_export]
 macro_rules! count_rows {
     (@ {} [$($done:tt)*]) => { [$($done)*].len() };
@@ -177,7 +177,7 @@ macro_rules! count_rows {
     ($($rows:tt)*) => { $crate::count_rows!(@ { $($rows)* } []) };
 }
 
-/// A table's rows as one flat array.
+/// Writes a table's rows as one flat array.
 #[macro_export]
 macro_rules! table {
     (@ {} [$($done:expr,)*]) => { [$($done),*] };
@@ -246,9 +246,9 @@ macro_rules! table {
     ($($rows:tt)*) => { $crate::table!(@ { $($rows)* } []) };
 }
 
-/// The parts of a structure: a table, one that is there where a formula isn't 0, as
-/// `sps_timing_hrd_params_present_flag => TIMING`, or one that comes so many times under a counter, as
-/// `INDEX in sps_num_ref_pic_lists => STRUCTURE`.
+/// Writes the parts of a structure. A part is a table, always present; or one that is present if a formula isn't 0, such as
+/// `sps_timing_hrd_params_present_flag => TIMING`; or one that is repeated under a counter, such as `INDEX in
+/// sps_num_ref_pic_lists => STRUCTURE`.
 #[macro_export]
 macro_rules! parts {
     (@ [$($done:tt)*]) => { [$($done)*] };
@@ -277,7 +277,7 @@ macro_rules! parts {
     ($($parts:tt)*) => { $crate::parts!(@ [] $($parts)*) };
 }
 
-/// A table's rows by type, from the text that [`table!`] makes an array of.
+/// Writes a table's rows as a type, from the text of which [`table!`] makes an array.
 #[macro_export]
 macro_rules! rows {
     () => { $crate::by_type::NoRow };

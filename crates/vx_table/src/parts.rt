@@ -1,4 +1,4 @@
-//! A structure of several tables, some of them on a condition or repeated.
+//! A structure of several tables, some of them conditional or repeated.
 
 ghost use Rattle.std.specs.Prelude.{◌≡◌, OnOk};
 ghost use Rattle.vx_table.specs.Walks.{Walks, leaving};
@@ -12,7 +12,7 @@ use crate::walk::{Coder, code_block};
 use crate::writer::{SpellError, Unwritten};
 use vx_bits::{BitReader, BitWriter, Fields, ReadError};
 
-/// A table of a structure, and how often it is there.
+/// A table of a structure, and how often it is present.
 #[derive(Clone, Copy)]
 pub struct Part<'a> {
     pub presence: Presence,
@@ -23,7 +23,7 @@ pub struct Part<'a> {
 ///
 /// # Errors
 ///
-/// The coder's, at the first field that it refuses.
+/// The coder's error at the first field that it refuses.
 pub fn code_parts<I, C: Coder<I>>(
     parts: &[Part<'_>],
     scope: &mut Scope,
@@ -42,8 +42,10 @@ pub fn code_parts<I, C: Coder<I>>(
 ///
 /// # Errors
 ///
-/// The first refusal, or want of memory. `items` has then gained the fields read before, and `bits` stands at the
-/// field that comes next; nothing is said of `scope`.
+/// - `Refused` with the first refusal.
+/// - `Memory` if memory runs out.
+///
+/// After an error, `items` has gained the fields read before, `bits` is at the next field, and `scope` is unspecified.
 pub fn read_parts(
     parts: &[Part<'_>],
     scope: &mut Scope,
@@ -60,9 +62,11 @@ pub fn read_parts(
 ///
 /// # Errors
 ///
-/// `NoValue` where the items don't begin with those of a value of the structure; want of memory. `bits` has then gained
-/// the spelling of the fields before one, and `items` begins with what was to be written there; nothing is said of
-/// `scope`.
+/// - `NoValue` if `items` doesn't start with the items of a value of the structure.
+/// - `Memory` if memory runs out.
+///
+/// After an error, `bits` has gained the codes of the fields before the one that failed, `items` starts at that field, and `scope` is
+/// unspecified.
 pub fn write_parts(
     parts: &[Part<'_>],
     scope: &mut Scope,

@@ -1,4 +1,4 @@
-//! Passing over a structure: reading for the scope's numbers alone, without items and without memory.
+//! Passing over a structure: reading only for the numbers in the scope, without items and without memory.
 
 ghost use Rattle.std.specs.Prelude.{OnOk};
 ghost use Rattle.vx_table.specs.Forms.{form_of};
@@ -23,11 +23,11 @@ impl<'a> Coder<()> for BitReader<'a> {
     }
 }
 
-/// Takes the fields of a table at a scope, and gives the scope the numbers read.
+/// Takes the fields of a table from `bits`, and stores their numbers in `scope`. Takes no memory.
 ///
 /// # Errors
 ///
-/// The first refusal; `bits` then stands at its field, and nothing is said of `scope`.
+/// The first refusal. `bits` is then at its field, and `scope` is unspecified.
 pub fn pass_table(table: &[Row], scope: &mut Scope, bits: &mut BitReader<'_>) -> Result<(), Refusal>
     ensures answer { PassesOver (form_of table.now scope.old) bits.old result bits.new }
     ensures scope { OnOk result (LeadsTo (form_of table.now scope.old) bits.old scope.new) }
@@ -35,11 +35,11 @@ pub fn pass_table(table: &[Row], scope: &mut Scope, bits: &mut BitReader<'_>) ->
     code_table(table, scope, bits, &mut ())
 }
 
-/// Takes the fields of a structure's parts, as [`pass_table`] those of a table.
+/// Takes the fields of a structure's parts, as [`pass_table`] does for one table. Takes no memory.
 ///
 /// # Errors
 ///
-/// The first refusal; `bits` then stands at its field, and nothing is said of `scope`.
+/// The first refusal. `bits` is then at its field, and `scope` is unspecified.
 pub fn pass_parts(
     parts: &[Part<'_>],
     scope: &mut Scope,

@@ -1,4 +1,4 @@
-//! What values a field may have: those of its coding that keep its range.
+//! The values that a field may have: those of its coding that are in its range.
 
 ghost use Rattle.std.specs.Prelude.{◌≡◌, ◌↔◌, ℕ, ℤ, pos, ◌≤ℤ◌, ◌^◌, ◌-◌, ◌≤◌, IsTrue};
 ghost use Rattle.vx_table.specs.Spelling as spelling;
@@ -7,7 +7,7 @@ ghost use Rattle.vx_table.specs.Values.{IsValueOf};
 
 use crate::rows::{Cell, Coding, Fault, Limits};
 
-/// Whether a value lies in a range.
+/// Returns whether a value lies in a range.
 #[inline(always)]
 fn is_within(low: i64, value: i64, high: i64) -> bool
     ensures { IsTrue result ↔ ((low ≤ℤ value) × (value ≤ℤ high)) }
@@ -15,7 +15,7 @@ fn is_within(low: i64, value: i64, high: i64) -> bool
     low <= value && value <= high
 }
 
-/// The largest number of `u(n)` for a width of at most 32.
+/// Returns the largest number of `u(n)` for a width of at most 32.
 #[inline(always)]
 fn largest(width: u32) -> i64
     requires { width ≤ 32 }
@@ -27,10 +27,10 @@ fn largest(width: u32) -> i64
 /// The largest value of `ue(v)`.
 const LAST_NUMBER: i64 = 0xffff_fffe;
 
-/// The largest value of `se(v)`; the smallest is its opposite.
+/// The largest value of `se(v)`; the smallest is its negative.
 const LAST_SIGNED: i64 = 0x7fff_ffff;
 
-/// Whether a coding has a code for the value.
+/// Returns whether a coding has a code for the value.
 #[inline(always)]
 pub fn has_code(coding: Coding<u32>, value: i64) -> bool
     requires { IsCodable coding }
@@ -47,7 +47,7 @@ pub fn has_code(coding: Coding<u32>, value: i64) -> bool
     }
 }
 
-/// The fault of a value, where it breaks its range.
+/// Returns the fault of a value that is outside its range, or `None`.
 #[tactic(auto, unfolding(crate::specs::Spelling::fault_of))]
 #[inline(always)]
 pub fn fault_of(limits: Limits<u32>, value: i64) -> Option<Fault>
@@ -75,14 +75,14 @@ pub fn fault_of(limits: Limits<u32>, value: i64) -> Option<Fault>
     }
 }
 
-/// Whether the value is one of 1, 2, 3 .. times the unit.
+/// Returns whether the value is 1, 2, 3 .. times the unit.
 fn is_multiple(unit: u32, value: i64) -> bool
     ensures { result ≡ spelling.is_multiple unit value }
 {
     value > 0 && unit > 0 && value % i64::from(unit) == 0
 }
 
-/// Whether a field may have the value: whether it has a code that keeps the range.
+/// Returns whether a field may have the value: it has a code, and is in the range.
 #[inline(always)]
 pub fn is_value(cell: Cell<u32>, value: i64) -> bool
     requires { IsCodable cell.coding }

@@ -1,4 +1,4 @@
-//! Reading by a table: bits to items.
+//! Reading by a table: from bits to items.
 
 ghost use Rattle.std.specs.Prelude.{◌≡◌, ◌≤◌, ◌++◌, length, OnOk, OnErr, IfErr};
 ghost use Rattle.vx_bits.specs.Place.{taken};
@@ -15,11 +15,11 @@ use crate::walk::{Coder, code_table, has_value};
 use std::alloc::Global;
 use vx_bits::{BitCause, BitReader, Fields, Item, ReadError, Refusal};
 
-/// Takes the code of a field or a gap, and gives its value, 0 for a gap; the field's range isn't looked at.
+/// Takes the code of a field or a gap, and returns its value, 0 for a gap. Doesn't check the field's range.
 ///
 /// # Errors
 ///
-/// Why no code begins here; the reader is then as it was.
+/// The cause why no code begins here. `bits` is then unchanged.
 #[inline(always)]
 pub fn take_code(bits: &mut BitReader<'_>, coding: Coding<u32>) -> Result<i64, BitCause>
     requires { IsCodable coding }
@@ -37,7 +37,7 @@ pub fn take_code(bits: &mut BitReader<'_>, coding: Coding<u32>) -> Result<i64, B
     }
 }
 
-/// A fault as it is reported, at a field and the bit where it begins.
+/// Returns a fault as the refusal that is reported, at a field and the bit where it begins.
 #[tactic(auto, unfolding(crate::specs::Spelling::reported))]
 pub fn report(fault: Fault, field: u16, bit: u32) -> Refusal
     ensures { result ≡ spelling.reported fault field bit }
@@ -58,11 +58,11 @@ pub fn report(fault: Fault, field: u16, bit: u32) -> Refusal
     }
 }
 
-/// Takes a field, a value of its range, and gives that; 0 for a gap.
+/// Takes a field, and returns its value, which is in its range; 0 for a gap.
 ///
 /// # Errors
 ///
-/// The field's refusal; the reader is then as it was.
+/// The field's refusal. `bits` is then unchanged.
 #[inline(always)]
 pub fn take_field(bits: &mut BitReader<'_>, cell: Cell<u32>) -> Result<i64, Refusal>
     requires { IsCodable cell.coding }
@@ -117,12 +117,14 @@ pub(crate) fn push(items: &mut Fields, cell: Cell<u32>, value: i64) -> Result<()
     Ok(())
 }
 
-/// Reads the fields of a table at a scope, appends their items, and gives the scope the numbers read.
+/// Reads the fields of `table` from `bits`, appends their items, and stores their numbers in `scope`.
 ///
 /// # Errors
 ///
-/// The first refusal, or want of memory. `items` has then gained the fields read before, and `bits` stands at the
-/// field that comes next; nothing is said of `scope`.
+/// - `Refused` with the first refusal.
+/// - `Memory` if memory runs out.
+///
+/// After an error, `items` has gained the fields read before, `bits` is at the next field, and `scope` is unspecified.
 pub fn read_table(
     table: &[Row],
     scope: &mut Scope,
@@ -135,11 +137,12 @@ pub fn read_table(
     code_table(table, scope, bits, items)
 }
 
-/// Reads the fields of a table at a scope from the front of an RBSP, which has at most 2^23 bytes.
+/// Reads the fields of `table` from the start of an RBSP of at most 2^23 bytes.
 ///
 /// # Errors
 ///
-/// The first refusal, or want of memory.
+/// - `Refused` with the first refusal.
+/// - `Memory` if memory runs out.
 pub fn read_value(
     alloc: Global,
     table: &[Row],

@@ -1,4 +1,4 @@
-//! Rewriting: from the items of some fields, and those of the others, the items of one value of a structure.
+//! Rewriting: the items of some fields and those of the others are joined to the items of one value of a structure.
 
 ghost use Rattle.std.specs.Prelude.{◌≡◌, ◌↔◌, [], IsTrue};
 ghost use Rattle.vx_table.specs.Parts.{parts_form};
@@ -17,7 +17,7 @@ use crate::writer::{SpellError, Unwritten, take_value};
 use std::marker::Model;
 use vx_bits::Fields;
 
-/// What a structure is rewritten from: the fields that are taken over, their items, and those of all other fields.
+/// The source of a rewritten structure: the fields in a set, their items, and those of all other fields.
 #[derive(Drop)]
 pub struct Rewriter<'a> {
     names: &'a [u16],
@@ -32,7 +32,8 @@ impl<'a> Model for Rewriter<'a> {
 }
 
 impl<'a> Rewriter<'a> {
-    /// From the items of the fields in a set, and those of the others, the next one of each first.
+    /// Returns a rewriter of the items of the fields in `names`, and those of all other fields. Each list begins with the
+    /// next item.
     pub fn new(names: &'a [u16], shown: Unwritten<'a>, others: Unwritten<'a>) -> Rewriter<'a>
         ensures { result ≡ record { names = names.now; shown = shown.entry; others = others.entry } }
     {
@@ -43,7 +44,7 @@ impl<'a> Rewriter<'a> {
         }
     }
 
-    /// Whether all items were taken.
+    /// Returns whether all items were taken.
     pub fn is_empty(&self) -> bool
         ensures { IsTrue result ↔ ((self.now.shown ≡ []) × (self.now.others ≡ [])) }
     {
@@ -83,13 +84,16 @@ impl<'a> Coder<Fields> for Rewriter<'a> {
     }
 }
 
-/// Takes the items of a value of a table at a scope, each among those of its kind, appends them to `into` in the order
-/// of the table, and gives the scope the numbers taken.
+/// Joins the items of one value of `table` and appends them to `into`, in the order of the table.
+///
+/// Each item is taken from the list of its kind, and `scope` receives the numbers.
 ///
 /// # Errors
 ///
-/// `NoValue` where the items don't begin with those of a value of the table; want of memory. `into` has then gained the
-/// items of the fields before one; nothing is said of `scope` and `rewriter`.
+/// - `NoValue` if the items don't start with those of a value of the table.
+/// - `Memory` if memory runs out.
+///
+/// After an error, `into` has gained the items of the fields before the one that failed; `scope` and `rewriter` are unspecified.
 pub fn rewrite_table(
     table: &[Row],
     scope: &mut Scope,
@@ -101,12 +105,14 @@ pub fn rewrite_table(
     code_table(table, scope, rewriter, into)
 }
 
-/// Takes the items of a value of a structure's parts, as [`rewrite_table`] takes those of a table.
+/// Joins the items of one value of a structure's parts, as [`rewrite_table`] does for one table.
 ///
 /// # Errors
 ///
-/// `NoValue` where the items don't begin with those of a value of the structure; want of memory. `into` has then gained
-/// the items of the fields before one; nothing is said of `scope` and `rewriter`.
+/// - `NoValue` if the items don't start with those of a value of the structure.
+/// - `Memory` if memory runs out.
+///
+/// After an error, `into` has gained the items of the fields before the one that failed; `scope` and `rewriter` are unspecified.
 pub fn rewrite_parts(
     parts: &[Part<'_>],
     scope: &mut Scope,

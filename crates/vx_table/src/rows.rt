@@ -1,25 +1,25 @@
-//! What a syntax table is made of: plain data, written by `table!`.
+//! The parts of a syntax table: plain data, written by `table!`.
 
 ghost use Rattle.std.specs.Prelude.{◌≡◌, ⊤};
 
 use std::alloc::AllocError;
 
-/// A number that a row uses: a written one, or the latest of a field or a name.
+/// A number that a row uses: a written one, or the latest number of a field or a name.
 #[derive(Clone, Copy)]
 pub enum Term {
     Number(u32),
     Latest(u16),
 }
 
-/// A number computed from two at most. A test gives 1 where it holds and else 0.
+/// A number computed from at most two terms. A test gives 1 if it holds, and otherwise 0.
 #[derive(Clone, Copy)]
 pub enum Formula {
     Plain(Term),
     Plus(Term, Term),
-    /// 0 where the second is the larger.
+    /// The difference, or 0 if the second is larger.
     Minus(Term, Term),
     Times(Term, Term),
-    /// The quotient, rounded up; 0 where the divisor is 0.
+    /// The quotient, rounded up, or 0 if the divisor is 0.
     Quotient(Term, Term),
     Least(Term, Term),
     PowerOfTwo(Term),
@@ -32,7 +32,7 @@ pub enum Formula {
     Either(Term, Term),
 }
 
-/// How a field is coded. `N` is a formula in a table's row, and its number where the row is coded.
+/// The coding of a field. `N` is a formula in a table's row, and its number when the row is coded.
 pub enum Coding<N> {
     /// `u(n)`.
     Fixed(N),
@@ -44,9 +44,9 @@ pub enum Coding<N> {
     Zeros,
     /// A one, and zeros up to the byte boundary.
     OneAndZeros,
-    /// The same, and the end of the bits.
+    /// A one, and zeros up to the byte boundary, at which the bits end.
     Trailing,
-    /// No bits: a field that is absent and yet stands, as 0, among the kept ones.
+    /// No bits: a field that is absent but counts, with value 0, among the kept ones.
     Absent,
     /// No bits: the structure is refused here.
     Refused,
@@ -64,7 +64,7 @@ impl<N: Copy> Clone for Coding<N> {
     }
 }
 
-/// The name of a broken range.
+/// The fault of a value outside its range.
 #[derive(Clone, Copy, Debug)]
 pub enum Fault {
     OutOfRange,
@@ -73,15 +73,15 @@ pub enum Fault {
     Structure(u8),
 }
 
-/// The values that a field may have.
+/// The range of a field.
 pub enum Limits<N> {
-    /// Every value of the code.
+    /// Every value that has a code.
     Any,
-    /// From `low` to `high`; any other breaks the range by this name.
+    /// From `low` to `high`; any other value has this fault.
     Within { low: i32, high: N, fault: Fault },
-    /// From 0 up to, and without, `bound`: none where it is 0.
+    /// From 0 to below `bound`: no value if it is 0.
     Below { bound: N, fault: Fault },
-    /// A positive multiple of `unit`; above `high` the fault has this name.
+    /// A positive multiple of `unit`; a value above `high` has this fault.
     Multiple { unit: u32, high: u32, fault: Fault },
 }
 
@@ -100,7 +100,7 @@ impl<N: Copy> Clone for Limits<N> {
 /// A field of a structure, or a gap that is reported under a field's number.
 pub struct Cell<N> {
     pub field: u16,
-    /// Whether the field is kept when a structure is rewritten: one without a star.
+    /// Whether the field is kept when a structure is rewritten: it has no star.
     pub kept: bool,
     pub coding: Coding<N>,
     pub limits: Limits<N>,
@@ -118,12 +118,12 @@ impl<N: Copy> Clone for Cell<N> {
     }
 }
 
-/// How often a block of rows is there.
+/// How often a block of rows is present.
 #[derive(Clone, Copy)]
 pub enum Presence {
-    /// Once where the formula isn't 0.
+    /// Once if the formula isn't 0.
     When(Formula),
-    /// This many times, with a counter from 0.
+    /// `times` times, with a counter from 0.
     Repeat { counter: u16, times: Formula },
 }
 
@@ -132,7 +132,7 @@ pub enum Presence {
 pub enum Row {
     /// A field or a gap.
     Field(Cell<Formula>),
-    /// The next `rows` rows are there so often.
+    /// A block of the next `rows` rows, present as often as `presence` says.
     Block { presence: Presence, rows: usize },
     /// A name for a number.
     Name { name: u16, formula: Formula },

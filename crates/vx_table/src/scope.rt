@@ -7,9 +7,9 @@ use crate::rows::{Formula, Term};
 use std::marker::Model;
 use vx_bits::{Fields, Item};
 
-/// The latest number of each field and name, which are themselves numbers below 1024; 0 of those that have none.
+/// The latest number of each field and name, 0 for those that have none. Fields and names are numbers below 1024.
 ///
-/// It is seen as the list of these numbers. A copy costs the same whatever stands in it.
+/// Copying takes the same time whatever it contains. *Model:* the list of these numbers.
 #[derive(Clone, Copy, Debug)]
 pub struct Scope {
     numbers: [u32; 1024],
@@ -28,7 +28,7 @@ impl Scope {
     ghost use Rattle.vx_table.specs.Scope.{fresh, latest, value, natural, loaded, joined};
     ghost use Rattle.vx_table.specs.inner.Loading.{loaded_at};
 
-    /// A scope in which every number is 0.
+    /// Returns a scope in which every number is 0.
     #[tactic(auto, unfolding(crate::specs::Scope::fresh))]
     pub fn new() -> Scope
         ensures { result ≡ fresh }
@@ -36,7 +36,7 @@ impl Scope {
         Scope { numbers: [0; 1024] }
     }
 
-    /// The latest number of a field or a name.
+    /// Returns the latest number of a field or a name.
     #[inline(always)]
     pub fn latest(&self, of: u16) -> u32
         ensures { result ≡ slice_index self.now of }
@@ -44,7 +44,7 @@ impl Scope {
         self.numbers.get(usize::from(of)).copied().unwrap_or(0)
     }
 
-    /// Gives a field or a name its number. A number past the last one of fields and names has none.
+    /// Sets the number of a field or a name. A field of 1024 or more is ignored.
     #[tactic(auto, using(std::proofs::lemmas::List::set_past))]
     #[inline(always)]
     pub fn set(&mut self, of: u16, number: u32)
@@ -56,7 +56,7 @@ impl Scope {
         }
     }
 
-    /// Gives each field of another structure the number of its last item.
+    /// Sets the number of each field in `items` to that of its last item.
     pub fn load(&mut self, items: &Fields)
         ensures { self.new ≡ loaded self.old items.now }
     {
@@ -66,7 +66,7 @@ impl Scope {
         }
     }
 
-    /// Takes the numbers of all fields and names from this one on from another scope.
+    /// Copies the numbers of all fields and names from `from` on from another scope.
     pub fn take_over(&mut self, other: &Scope, from: u16)
         ensures { self.new ≡ joined from self.old other.now }
     {
@@ -74,7 +74,7 @@ impl Scope {
         self.numbers[from..].copy_from_slice(&other.numbers[from..]);
     }
 
-    /// Forgets the numbers of all fields and names from this one on.
+    /// Sets the numbers of all fields and names from `from` on to 0.
     fn clear_from(&mut self, from: u16)
         requires { from ≤ 1024 }
         ensures numbers { self.new ≡ joined from self.old fresh }
@@ -85,7 +85,7 @@ impl Scope {
         self.numbers[from..].copy_from_slice(&fresh.numbers[from..]);
     }
 
-    /// Gives the field of an item its number, unless it is below another field.
+    /// Sets the number of an item's field, unless the field is below `from`.
     #[inline(always)]
     fn load_at(&mut self, item: Item, from: u16)
         ensures { self.new ≡ loaded_at from self.old item }
@@ -96,7 +96,7 @@ impl Scope {
         self.set(item.field, natural(item.value));
     }
 
-    /// Takes over from this field on what a scope has that only these items were loaded into.
+    /// Sets the numbers of all fields from `from` on to those that `items` give them, and 0 for fields without an item.
     #[tactic(auto, using(crate::proofs::LoadedFrom::from_first, crate::proofs::LoadedFrom::from_turn, crate::proofs::LoadedFrom::from_all))]
     pub fn load_from(&mut self, items: &Fields, from: u16)
         requires { from ≤ 1024 }
@@ -108,7 +108,7 @@ impl Scope {
         }
     }
 
-    /// The number of a term.
+    /// Returns the number of a term.
     #[inline(always)]
     fn term(&self, term: Term) -> u32
         ensures { result ≡ latest self.now term }
@@ -119,7 +119,7 @@ impl Scope {
         }
     }
 
-    /// The number of a formula; most are terms.
+    /// Returns the number of a formula; most are terms.
     #[tactic(auto, unfolding(crate::specs::Scope::value))]
     #[inline(always)]
     pub(crate) fn number(&self, formula: &Formula) -> u32
@@ -131,8 +131,8 @@ impl Scope {
         self.computed(*formula)
     }
 
-    /// The number of any formula, which is worked out in one place. It takes a copy, so that a formula that is known when a walk is
-    /// compiled needs no memory.
+    /// Returns the number of any formula, computed out of line. It takes a copy, so that a formula that is known when a
+    /// walk is compiled needs no memory.
     #[inline(never)]
     fn computed(&self, formula: Formula) -> u32
         ensures { result ≡ value self.now formula }
@@ -140,7 +140,7 @@ impl Scope {
         self.number_inlined(&formula)
     }
 
-    /// The number of any formula, worked out where it is asked for.
+    /// Returns the number of any formula, computed inline.
     #[tactic(auto, unfolding(crate::specs::Scope::value))]
     #[inline(always)]
     pub(crate) fn number_inlined(&self, formula: &Formula) -> u32

@@ -1,4 +1,4 @@
-//! Sending: a structure is rewritten and written in one walk, with no list of its items in between.
+//! Sending: a structure is rewritten and written in one walk, without a list of its items in between.
 
 ghost use Rattle.std.specs.Prelude.{◌≡◌};
 ghost use Rattle.vx_table.specs.Spelling.{IsCodable};
@@ -18,14 +18,14 @@ pub trait FieldSet {
 
     ghost names: { List ℕ };
 
-    /// Whether it has this one.
+    /// Returns whether the set contains `field`.
     fn has(field: u16) -> bool
         ensures { result ≡ sets.has names field };
 }
 
-/// What a structure is sent from: the items of the fields that are stated anew, those of a set, and all items of its source.
+/// The source of a structure that is sent: new items for the fields in a set, and all items of another value.
 ///
-/// It is seen as what a [`crate::Rewriter`] is that is given the source's items of the other fields.
+/// *Model:* that of a [`crate::Rewriter`] which has the source's items of the other fields.
 #[derive(Drop)]
 pub struct Sender<'a, N: FieldSet> {
     set: PhantomData<N>,
@@ -39,7 +39,7 @@ impl<'a, N: FieldSet> Model for Sender<'a, N> {
     ghost view = { λ s. record { names = N.names; shown = s.stated; others = other_items N.names s.source } };
 }
 
-/// Passes over the items of the fields in a set that come next.
+/// Skips the items of fields in the set that come next.
 #[inline(always)]
 fn pass_named<N: FieldSet>(items: &mut Unwritten<'_>)
     ensures others { other_items N.names items.new ≡ other_items N.names items.old }
@@ -55,7 +55,7 @@ fn pass_named<N: FieldSet>(items: &mut Unwritten<'_>)
 }
 
 impl<'a, N: FieldSet> Sender<'a, N> {
-    /// From the items of the fields in the set, and all items of another value, of which those of the other fields are taken.
+    /// Returns a sender of the new items `stated`, for the fields in the set, and of the other fields' items in `source`.
     pub fn new(stated: Unwritten<'a>, source: Unwritten<'a>) -> Sender<'a, N>
         ensures { result ≡ record { names = N.names; shown = stated.entry; others = other_items N.names source.entry } }
     {

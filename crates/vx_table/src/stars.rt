@@ -1,4 +1,4 @@
-//! The fields without a star, and the test that the stars of a table tell what is shown.
+//! The fields without a star, and the test that the stars of a table mark what is not shown.
 
 ghost use Rattle.std.specs.Prelude.{◌≡◌, ◌++◌, IsTrue, OnOk};
 ghost use Rattle.vx_table.specs.Forms.{form_of};
@@ -14,7 +14,7 @@ use crate::rows::Row;
 use std::alloc::AllocError;
 use vx_bits::CopyList;
 
-/// A set of fields: a list of them.
+/// A set of fields, as a list.
 pub type NameList = CopyList<u16>;
 
 /// Appends the field of a row, if it has no star.
@@ -29,12 +29,11 @@ fn push_unstarred_row(names: &mut NameList, row: Row) -> Result<(), AllocError>
     Ok(())
 }
 
-/// Appends the fields without a star of a table: from none on, over all tables of a structure, they become its kept
-/// fields.
+/// Appends the fields of `table` that have no star. Over all tables of a structure, they are its kept fields.
 ///
 /// # Errors
 ///
-/// Where memory runs out.
+/// `AllocError` if memory runs out.
 pub fn push_unstarred(names: &mut NameList, table: &[Row]) -> Result<(), AllocError>
     ensures { OnOk result (names.new ≡ names.old ++ unstarred_rows table.now) }
 {
@@ -44,7 +43,7 @@ pub fn push_unstarred(names: &mut NameList, table: &[Row]) -> Result<(), AllocEr
     Ok(())
 }
 
-/// Whether a row's field has a star exactly where it isn't shown.
+/// Returns whether a row's field has a star exactly if it isn't shown.
 #[tactic(auto, unfolding(crate::specs::Shown::star_tells), using(crate::proofs::Agreeing::has_either))]
 fn star_tells(given: &[u16], shown: &[u16], row: Row) -> bool
     ensures { result ≡ stars.star_tells (given.now ++ shown.now) row }
@@ -60,7 +59,7 @@ fn star_tells(given: &[u16], shown: &[u16], row: Row) -> bool
     }
 }
 
-/// Whether the stars of rows tell what is shown.
+/// Returns whether each row's field has a star exactly if it isn't shown.
 fn stars_tell(given: &[u16], shown: &[u16], rows: &[Row]) -> bool
     ensures { result ≡ stars.stars_tell (given.now ++ shown.now) rows.now }
 {
@@ -72,7 +71,7 @@ fn stars_tell(given: &[u16], shown: &[u16], rows: &[Row]) -> bool
     true
 }
 
-/// Whether the stars of all parts tell what is shown.
+/// Returns whether in all parts each field has a star exactly if it isn't shown.
 fn parts_stars_tell(given: &[u16], shown: &[u16], parts: &[Part<'_>]) -> bool
     ensures { result ≡ stars.sections_stars_tell (given.now ++ shown.now) (sections_of parts.now) }
 {
@@ -84,7 +83,7 @@ fn parts_stars_tell(given: &[u16], shown: &[u16], parts: &[Part<'_>]) -> bool
     true
 }
 
-/// Whether a table's fields without a star are exactly its shown ones; a given one counts as shown.
+/// Returns whether the fields of `table` without a star are exactly the shown ones. A given field counts as shown.
 pub fn keeps_only(table: &[Row], given: &[u16], shown: &[u16]) -> bool
     ensures test { result ≡ stars.stars_tell (given.now ++ shown.now) table.now }
     ensures keeps { IsTrue result → KeepsOnly given.now shown.now (form_of table.now) }
@@ -92,7 +91,7 @@ pub fn keeps_only(table: &[Row], given: &[u16], shown: &[u16]) -> bool
     stars_tell(given, shown, table)
 }
 
-/// Whether the fields of a structure's parts without a star are exactly its shown ones, as [`keeps_only`].
+/// Returns whether the fields of a structure's parts without a star are exactly the shown ones, as [`keeps_only`] does.
 pub fn parts_keep_only(parts: &[Part<'_>], given: &[u16], shown: &[u16]) -> bool
     ensures test { result ≡ stars.sections_stars_tell (given.now ++ shown.now) (sections_of parts.now) }
     ensures keeps { IsTrue result → KeepsOnly given.now shown.now (sections_form (sections_of parts.now)) }

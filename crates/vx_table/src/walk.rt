@@ -13,25 +13,25 @@ use crate::arithmetic::natural;
 use crate::rows::{Cell, Coding, Formula, Limits, Presence, Row, Term};
 use crate::scope::Scope;
 
-/// What codes the fields of a structure, one after another: a reader from bits to items, a writer from items to bits.
+/// A coder of the fields of a structure, one after another: a reader turns bits into items, a writer items into bits.
 pub trait Coder<I> {
     ghost use Rattle.std.specs.Prelude.{IfOk};
     ghost use Rattle.vx_table.specs.Values.{IsValueOf};
     ghost use Rattle.vx_table.specs.Walks.{Step};
 
-    /// Why a field can't be coded.
+    /// The error of a field that can't be coded.
     type Fault;
 
     ghost step: { Step Self I Self.Fault };
 
-    /// Codes one field, and answers its value, one that the field may have, which is 0 for a gap.
+    /// Codes one field, and returns its value, which is one that the field may have; 0 for a gap.
     fn code(&mut self, items: &mut I, cell: Cell<u32>) -> Result<i64, Self::Fault>
         requires { IsCodable cell.coding }
         ensures step { step self.old items.old cell result self.new items.new }
         ensures value { IfOk result (λ v. IsValueOf cell v) };
 }
 
-/// A field's coding at a scope.
+/// Returns a field's coding at a scope.
 #[tactic(auto, unfolding(crate::specs::Forms::coding_at))]
 #[inline(always)]
 fn coding_at(scope: &Scope, coding: &Coding<Formula>) -> Coding<u32>
@@ -50,7 +50,7 @@ fn coding_at(scope: &Scope, coding: &Coding<Formula>) -> Coding<u32>
     }
 }
 
-/// Whether the coding is that of a field with a value, and not of a gap.
+/// Returns whether the coding is that of a field with a value, and not of a gap.
 #[tactic(auto, unfolding(crate::specs::Forms::has_value))]
 #[inline(always)]
 pub fn has_value<N: Copy>(coding: Coding<N>) -> bool
@@ -62,7 +62,7 @@ pub fn has_value<N: Copy>(coding: Coding<N>) -> bool
     )
 }
 
-/// The coding of a row that codes the field with this number.
+/// Returns the coding of a row that codes `field`.
 fn coding_in_row(row: Row, field: u16) -> Option<Coding<Formula>>
     ensures { result ≡ coding_in row field }
 {
@@ -72,7 +72,7 @@ fn coding_in_row(row: Row, field: u16) -> Option<Coding<Formula>>
     }
 }
 
-/// How a table codes the field with this number, where it has such a field.
+/// Returns how a table codes `field`, or `None` if it has no such field.
 pub fn coding_of(table: &[Row], field: u16) -> Option<Coding<Formula>>
     ensures { result ≡ forms.coding_of table.now field }
 {
@@ -84,7 +84,7 @@ pub fn coding_of(table: &[Row], field: u16) -> Option<Coding<Formula>>
     None
 }
 
-/// A field's range at a scope.
+/// Returns a field's range at a scope.
 #[tactic(auto, unfolding(crate::specs::Forms::limits_at))]
 #[inline(always)]
 fn limits(scope: &Scope, limits: &Limits<Formula>) -> Limits<u32>
@@ -109,7 +109,7 @@ fn limits(scope: &Scope, limits: &Limits<Formula>) -> Limits<u32>
     }
 }
 
-/// A field at a scope.
+/// Returns a field at a scope.
 #[inline(always)]
 pub(crate) fn cell(scope: &Scope, row: &Cell<Formula>) -> Cell<u32>
     ensures { result ≡ cell_at scope.now row.now }
@@ -122,7 +122,7 @@ pub(crate) fn cell(scope: &Scope, row: &Cell<Formula>) -> Cell<u32>
     }
 }
 
-/// Gives a field its value; a gap has none.
+/// Stores a field's value in the scope; a gap has none.
 #[tactic(auto, unfolding(crate::specs::Forms::after))]
 #[inline(always)]
 fn set_field(scope: &mut Scope, cell: Cell<u32>, value: i64)
@@ -133,7 +133,7 @@ fn set_field(scope: &mut Scope, cell: Cell<u32>, value: i64)
     }
 }
 
-/// A field of one bit and any value, which is the same at every scope.
+/// Returns a field of one bit without a range, which is the same at every scope.
 #[tactic(auto, unfolding(crate::specs::Forms::coding_at, crate::specs::Forms::limits_at, crate::specs::Scope::value))]
 #[inline(always)]
 fn flag(row: &Cell<Formula>) -> Option<Cell<u32>>
@@ -153,7 +153,7 @@ fn flag(row: &Cell<Formula>) -> Option<Cell<u32>>
     })
 }
 
-/// Codes one field at a scope, and gives that its value.
+/// Codes one field at a scope, and stores its value there.
 #[inline(always)]
 pub(crate) fn code_cell<I, C: Coder<I>>(
     cell: Cell<u32>,
@@ -169,7 +169,7 @@ pub(crate) fn code_cell<I, C: Coder<I>>(
     Ok(())
 }
 
-/// Codes one field, and gives the scope its value.
+/// Codes one field, and stores its value in the scope.
 #[inline(always)]
 fn code_field<I, C: Coder<I>>(
     row: &Cell<Formula>,
@@ -186,7 +186,7 @@ fn code_field<I, C: Coder<I>>(
     code_cell(cell, scope, coder, items)
 }
 
-/// The rows of a block, which are at most those that are left, and the rows behind it.
+/// Splits rows into those of a block, at most all, and those after it.
 #[inline(always)]
 pub(crate) fn split_block(rows: &[Row], inside: usize) -> (&[Row], &[Row])
     ensures block { result.0.now ≡ take (min inside (length rows.now)) rows.now }
@@ -196,7 +196,7 @@ pub(crate) fn split_block(rows: &[Row], inside: usize) -> (&[Row], &[Row])
     rows.split_at(inside.min(rows.len()))
 }
 
-/// The first of some rows and of others behind them, and which rows come after it.
+/// Returns the first of some rows and of others after them, and the rows that come after it in each.
 #[inline(always)]
 fn first_row<'a>(rows: &'a [Row], behind: &'a [Row]) -> Option<(&'a Row, &'a [Row], &'a [Row])>
     ensures form { MatchOption result
@@ -213,7 +213,7 @@ fn first_row<'a>(rows: &'a [Row], behind: &'a [Row]) -> Option<(&'a Row, &'a [Ro
     }
 }
 
-/// The rows of both, where one of them has none.
+/// Returns the rows of both, if at least one of them is empty.
 #[inline(always)]
 fn one_behind<'a>(next: &'a [Row], behind: &'a [Row]) -> Option<&'a [Row]>
     ensures form { IfSome result
@@ -233,7 +233,7 @@ fn one_behind<'a>(next: &'a [Row], behind: &'a [Row]) -> Option<&'a [Row]>
 ///
 /// # Errors
 ///
-/// The coder's, at the first field that it refuses.
+/// The coder's error at the first field that it refuses.
 #[cycle(walk)]
 pub fn code_table<I, C: Coder<I>>(
     table: &[Row],
@@ -270,8 +270,8 @@ pub fn code_table<I, C: Coder<I>>(
     Ok(())
 }
 
-/// Codes a block that comes before the rest of some rows, or leads into it, where it is there once and one of the two runs of rows
-/// behind it has none. It gives the rows that come next, and those behind them.
+/// Codes a block that comes before the rest of some rows. If the block is present once and one of the two runs of rows
+/// after it is empty, it only leads into the block. Returns the rows that come next, and those after them.
 #[cycle(walk)]
 #[inline(always)]
 fn pass_block<'a, I, C: Coder<I>>(
@@ -314,7 +314,7 @@ fn pass_block<'a, I, C: Coder<I>>(
     }
 }
 
-/// Codes a block of rows as often as it is there.
+/// Codes a block of rows as often as it is present.
 pub(crate) fn code_block<I, C: Coder<I>>(
     presence: &Presence,
     block: &[Row],
@@ -338,7 +338,7 @@ pub(crate) fn code_block<I, C: Coder<I>>(
     }
 }
 
-/// Codes a block of rows so many times, with the number of the turn under the counter's name.
+/// Codes a block of rows `times` times, with the number of the turn as the counter's number.
 #[cycle(walk)]
 fn code_turns<I, C: Coder<I>>(
     block: &[Row],

@@ -1,4 +1,4 @@
-//! Writing by a table: items to bits.
+//! Writing by a table: from items to bits.
 
 ghost use Rattle.std.specs.Prelude.{◌≡◌, ◌↔◌, ℕ, pos, ◌^◌, ◌<◌, ◌-◌, ◌≤◌, List, ◌∷◌, ◌++◌, [], length, take, drop, IsTrue, OnOk, OnErr, MatchOption};
 ghost use Rattle.vx_bits.specs.declared.list.Item.{Item};
@@ -14,16 +14,16 @@ use std::alloc::AllocError;
 use std::marker::Model;
 use vx_bits::{BitWriter, Fields, Item};
 
-/// Why a value isn't written.
+/// The reason why a value isn't written.
 #[derive(Clone, Copy, Debug, PartialEq, Eq)]
 pub enum SpellError {
     /// Memory ran out.
     Memory,
-    /// The items begin with those of no value of the structure.
+    /// The items don't begin with those of a value of the structure.
     NoValue,
 }
 
-/// Why a value that there is isn't written: memory ran out.
+/// Converts an error that isn't `NoValue` to the only other one: memory ran out.
 pub fn only_memory(error: SpellError) -> AllocError
     requires { error ≡ SpellError.NoValue → ⊥ }
 {
@@ -35,7 +35,7 @@ pub fn only_memory(error: SpellError) -> AllocError
 
 /// Items that are to be written, the next one first.
 ///
-/// It is seen as the list of these items.
+/// *Model:* the list of these items.
 #[derive(Drop)]
 pub struct Unwritten<'a> {
     items: &'a Fields,
@@ -52,7 +52,7 @@ impl<'a> Model for Unwritten<'a> {
 }
 
 impl<'a> Unwritten<'a> {
-    /// The items from one place up to another.
+    /// Returns the items from place `from` up to `to`.
     pub fn new(items: &'a Fields, from: usize, to: usize) -> Unwritten<'a>
         requires order { from ≤ to }
         requires within { to ≤ length items.now }
@@ -65,7 +65,7 @@ impl<'a> Unwritten<'a> {
         }
     }
 
-    /// The same items, which are taken by themselves.
+    /// Returns a second list of the same items, which is then independent of this one.
     #[inline(always)]
     pub fn fork(&self) -> Unwritten<'a>
         ensures { result ≡ self.now }
@@ -77,14 +77,14 @@ impl<'a> Unwritten<'a> {
         }
     }
 
-    /// Whether all items were taken.
+    /// Returns whether all items were taken.
     pub fn is_empty(&self) -> bool
         ensures { IsTrue result ↔ (self.now ≡ []) }
     {
         self.at == self.end
     }
 
-    /// Takes the next item, where one is left.
+    /// Takes the next item, if there is one.
     #[inline(always)]
     pub fn next(&mut self) -> Option<Item>
         ensures { MatchOption result ((self.old ≡ []) × (self.new ≡ [])) (λ item. self.old ≡ item ∷ self.new) }
@@ -98,7 +98,7 @@ impl<'a> Unwritten<'a> {
     }
 }
 
-/// The value of the next field; 0 for a gap, which has no item.
+/// Returns the value of the next field; 0 for a gap, which has no item.
 #[inline(always)]
 fn next_value(items: &mut Unwritten<'_>, field: u16, coding: Coding<u32>) -> Option<i64>
     ensures { TellsValue field coding items.old result items.new }
@@ -112,9 +112,9 @@ fn next_value(items: &mut Unwritten<'_>, field: u16, coding: Coding<u32>) -> Opt
     }
 }
 
-/// Takes the item of the next field's value, where it is one that the field may have; a gap has the value 0 and no item.
+/// Takes the item of the next field's value, if the field may have it. A gap has the value 0 and no item.
 ///
-/// Where it answers `None`, the items may be fewer: a coder takes the value from a fork.
+/// After `None`, items may have been taken; so take the value from a fork.
 #[inline(always)]
 pub fn take_value(items: &mut Unwritten<'_>, cell: Cell<u32>) -> Option<i64>
     requires { IsCodable cell.coding }
@@ -129,7 +129,7 @@ pub fn take_value(items: &mut Unwritten<'_>, cell: Cell<u32>) -> Option<i64>
     Some(value)
 }
 
-/// A value as a number, where it is one of 32 bits.
+/// Returns a value as a number, if 32 bits hold it.
 #[inline(always)]
 fn number(value: i64) -> u32
     ensures { (n : ℕ) → value ≡ pos n → n < 2 ^ 32 → result ≡ n }
@@ -141,7 +141,7 @@ fn number(value: i64) -> u32
 ///
 /// # Errors
 ///
-/// Where memory runs out; the bits are then as they were.
+/// `AllocError` if memory runs out. The bits are then unchanged.
 #[inline(always)]
 pub fn write_code(bits: &mut BitWriter, coding: Coding<u32>, value: i64) -> Result<(), AllocError>
     requires width { IsCodable coding }
@@ -182,12 +182,15 @@ impl<'a> Coder<Unwritten<'a>> for BitWriter {
     }
 }
 
-/// Writes the fields of a table at a scope, whose items come next, and gives the scope the numbers written.
+/// Writes the fields of `table`, whose items come next in `items`, and stores their numbers in `scope`.
 ///
 /// # Errors
 ///
-/// `NoValue` where the items don't begin with those of a value of the table; want of memory. `bits` has then gained the
-/// spelling of the fields before one, and `items` begins with what was to be written there; nothing is said of `scope`.
+/// - `NoValue` if `items` doesn't start with the items of a value of `table`.
+/// - `Memory` if memory runs out.
+///
+/// After an error, `bits` has gained the codes of the fields before the one that failed, `items` starts at that field, and `scope` is
+/// unspecified.
 pub fn write_table(
     table: &[Row],
     scope: &mut Scope,

@@ -8,10 +8,10 @@ use Rattle.vx_table.specs.declared.rows.Coding.TheVariants.{Fixed}
 use Rattle.vx_table.specs.declared.rows.Limits.TheVariants.{Any}
 use Rattle.vx_table.specs.declared.rows.Cell.{Cell}
 
--- a term by the two numbers of a type: the latest number of a field or name, or where none is named a written number
+-- A term from the two numbers of a type: the latest number of a field or name, or a written number if no field is named.
 abbrev pub term_of : ℕ → ℕ → Term
 term_of of number = cond (of == 65535) (Number number) (Latest of)
 
--- a field of one bit and any value
+-- A field of one bit without a range.
 abbrev pub flag_cell : ℕ → Bool → Cell Formula
 flag_cell of is_kept = record { field = of; kept = is_kept; coding = Fixed (Plain (Number 1)); limits = Any }

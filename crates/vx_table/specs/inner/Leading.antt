@@ -1,4 +1,4 @@
--- What is left of a form behind what a coder was taken along.
+-- What is left of a form after a coder was taken along it.
 use Rattle.std.specs.Prelude.{Result}
 use Rattle.vx_table.specs.Forms.{Form}
 use Rattle.vx_table.specs.Walks.{Step, Walks}

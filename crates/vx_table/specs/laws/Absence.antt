@@ -1,4 +1,4 @@
--- Fields that numbers hide: where some fields and names have the number 0, what stands under a condition that is then 0 is absent.
+-- Fields that numbers hide: if some fields and names have the number 0, then what is under a condition that is then 0 is absent.
 use Rattle.std.specs.Prelude.{◌≡◌, ℕ, ℤ, zero, suc, ◌-◌, min, Bool, true, false, cond, not, ◌&&◌, ◌||◌, ◌==◌, IsTrue, IsFalse, List, [], ◌∷◌}
 use Rattle.std.specs.Prelude.{length, slice_index, slice_set}
 use Rattle.vx_table.specs.declared.rows.Term.{Term}
@@ -17,7 +17,7 @@ use Rattle.vx_table.specs.Depends.{has, Leaves}
 use Rattle.vx_table.specs.Claims.{comes_always, hides_counter}
 use Rattle.vx_table.specs.Shown.{shown_items}
 
--- A form has no field of these names, and this holds of the scopes at its ends.
+-- A form has no field of these names, and this holds for the scopes at its ends.
 abbrev pub IsAbsent : List ℕ → (List ℕ → Type 0) → Form (List ℕ) → Type 0
 IsAbsent names E (done t) = E t
 IsAbsent names E (field cell goes) = IsFalse (has names cell.field) × ((v : ℤ) → IsAbsent names E (goes v))
@@ -26,7 +26,7 @@ IsAbsent names E (field cell goes) = IsFalse (has names cell.field) × ((v : ℤ
 pub record AreZero (zeros s : List ℕ) : Type 0 where
   pub at : (n : ℕ) → IsTrue (has zeros n) → slice_index s n ≡ 0
 
--- Wherever some numbers are 0, a structure has no field of these names, and at its end the numbers are 0 still.
+-- If some numbers are 0, then a structure has no field of these names, and at its end the numbers are still 0.
 pub record AreHidden (names zeros : List ℕ) (form : List ℕ → Form (List ℕ)) : Type 0 where
   pub at : (s : List ℕ) → AreZero zeros s → IsAbsent names (AreZero zeros) (form s)
 
@@ -38,7 +38,7 @@ HiddenHaveNoItems = (names zeros : List ℕ) (form : List ℕ → Form (List ℕ
 
 -- ---- the test over rows
 
--- a formula that is 0 where these numbers are
+-- A formula that is 0 if these numbers are 0.
 abbrev pub is_zero_term : List ℕ → Term → Bool
 is_zero_term zeros (Number n) = n == 0
 is_zero_term zeros (Latest of) = has zeros of
@@ -52,23 +52,23 @@ is_zero zeros (Both a b) = is_zero_term zeros a || is_zero_term zeros b
 is_zero zeros (Either a b) = is_zero_term zeros a && is_zero_term zeros b
 is_zero zeros formula = false
 
--- a block that is then absent
+-- A block that is then absent.
 unfoldable pub never_comes : List ℕ → Presence → Bool
 never_comes zeros (When holds) = is_zero zeros holds
 never_comes zeros (Repeat counter times) = is_zero zeros times
 
--- A block is absent, or it counts under none of the numbers that are 0, and what stands in it is hidden.
+-- A block is absent, or its counter is none of the numbers that are 0 and what is in it is hidden.
 abbrev pub block_hides : List ℕ → Presence → Bool → Bool
 block_hides zeros presence inside = never_comes zeros presence || (hides_counter zeros presence && inside)
 
--- A name is given a number that is then 0, or isn't one of those that are.
+-- A name is given a number that is then 0, or isn't one of those that are 0.
 abbrev pub name_hides : List ℕ → ℕ → Formula → Bool
 name_hides zeros name formula = is_zero zeros formula || not (has zeros name)
 
 abbrev pub with_name : List ℕ → ℕ → Formula → List ℕ
 with_name zeros name formula = cond (is_zero zeros formula) (name ∷ zeros) zeros
 
--- No field of the names is left, and none of the numbers changes. It is said of len rows, those behind the first skip of them.
+-- No field of the names is left, and none of the numbers changes. This is said of len rows after the first skip rows.
 unfoldable pub rows_hide : List ℕ → List ℕ → ℕ → ℕ → List Row → Bool
 rows_hide names zeros skip len [] = true
 rows_hide names zeros (suc skip) len (row ∷ rows) = rows_hide names zeros skip len rows
@@ -80,7 +80,7 @@ rows_hide names zeros zero (suc len) (Block presence n ∷ rows) =
 rows_hide names zeros zero (suc len) (Name name formula ∷ rows) =
     name_hides zeros name formula && rows_hide names (with_name zeros name formula) zero len rows
 
--- The numbers that are 0 behind rows: those before, and names outside blocks that are given 0.
+-- The numbers that are 0 after rows: those before, and names outside of blocks that are given 0.
 unfoldable pub zeros_behind : List ℕ → ℕ → ℕ → List Row → List ℕ
 zeros_behind zeros skip len [] = zeros
 zeros_behind zeros (suc skip) len (row ∷ rows) = zeros_behind zeros skip len rows
@@ -89,7 +89,7 @@ zeros_behind zeros zero (suc len) (Field c ∷ rows) = zeros_behind zeros zero l
 zeros_behind zeros zero (suc len) (Block presence n ∷ rows) = zeros_behind zeros (min n len) (len - min n len) rows
 zeros_behind zeros zero (suc len) (Name name formula ∷ rows) = zeros_behind (with_name zeros name formula) zero len rows
 
--- The two of a table, and of the tables of a structure.
+-- The two for a table, and for the tables of a structure.
 unfoldable pub table_hides : List ℕ → List ℕ → List Row → Bool
 table_hides names zeros rows = rows_hide names zeros 0 (length rows) rows
 
@@ -108,7 +108,7 @@ sections_hide_where names zeros [] = true
 sections_hide_where names zeros (section ∷ more) = section_hides names zeros section
     && sections_hide_where names (behind_there zeros section) more
 
--- Where the test holds, the fields are hidden.
+-- If the test holds, then the fields are hidden.
 abbrev pub TablesHide : Type 0
 TablesHide = (names zeros : List ℕ) (rows : List Row) → table_hides names zeros rows ≡ true
     → AreHidden names zeros (form_of rows)
@@ -119,7 +119,7 @@ SectionsHide = (names zeros : List ℕ) (sections : List Section) → sections_h
 
 -- ---- parts
 
--- one part behind another, one that is there so often, a name that is given a number, and a part that leaves all of them alone
+-- One part after another, one that is repeated, a name that is given a number, and a part that leaves all of them unchanged.
 abbrev pub HiddenTogether : Type 0
 HiddenTogether = (names zeros : List ℕ) (form next : List ℕ → Form (List ℕ)) → AreHidden names zeros form → AreHidden names zeros next
     → AreHidden names zeros (λ s. form s >>= next)

@@ -1,5 +1,5 @@
--- The same bits, values and answers again: of two alike forms all of whose fields are shown, as those of one structure at scopes
--- that agree.
+-- The same bits, values and answers again, for two alike forms all of whose fields are shown, such as those of one structure at
+-- scopes that agree.
 use Rattle.std.specs.Prelude.{◌≡◌, ℕ, ℤ, Bool, true, IsTrue, List, Result}
 use Rattle.vx_bits.specs.declared.list.Item.{Item}
 use Rattle.vx_bits.specs.declared.refusal.ReadError.{ReadError}
@@ -15,15 +15,15 @@ use Rattle.vx_table.specs.Values.{Follows, bits_along}
 use Rattle.vx_table.specs.Reading.{Reads}
 use Rattle.vx_table.specs.Depends.{has, Agree, Alike}
 
--- All fields of a form are shown, gaps under the field that they are reported under too.
+-- All fields of a form are shown, including gaps, under the field as which they are reported.
 abbrev pub AllShown : List ℕ → Form (List ℕ) → Type 0
 AllShown shown form = EachField (λ cell. IsTrue (has shown cell.field)) form
 
--- So are a structure's at each scope.
+-- All fields of a structure are shown at each scope.
 pub record AlwaysShown (shown : List ℕ) (form : List ℕ → Form (List ℕ)) : Type 0 where
   pub at : (s : List ℕ) → AllShown shown (form s)
 
--- The values that go through a form to an end go through another too, to an end that agrees with it, with the same items and the
+-- The values that go through a form to an end also go through another, to an end that agrees with it, with the same items and the
 -- same bits.
 pub record GoesToo (known : List ℕ) (form other : Form (List ℕ)) (values : List ℤ) (end : List ℕ) : Type 0 where
   pub last : List ℕ
@@ -36,8 +36,8 @@ abbrev pub FollowsAgain : Type 0
 FollowsAgain = (shown known : List ℕ) (f g : Form (List ℕ)) (values : List ℤ) (end : List ℕ) → Alike shown known f g → AllShown shown f
     → AllShown shown g → Follows f values end → GoesToo known f g values end
 
--- bits that spell values of the one spell them of the other, with the same rest; and so up to a field that comes next, which then
--- is refused alike, since a refusal tells of the field and the bits alone
+-- Bits that spell values of the one spell them of the other, with the same rest. So do bits up to a field that comes next, which is
+-- then refused in the same way, since a refusal depends only on the field and the bits.
 abbrev pub ReadsAgain : Type 0
 ReadsAgain = (shown known : List ℕ) (f g : Form (List ℕ)) (total : ℕ) (values : List ℤ) (left rest : List Bool) → Alike shown known f g
     → AllShown shown f → AllShown shown g → Spells total f values left rest → Spells total g values left rest
@@ -47,7 +47,7 @@ StopsAgain = (shown known : List ℕ) (f g : Form (List ℕ)) (total : ℕ) (val
     → Alike shown known f g → AllShown shown f → AllShown shown g → Reaches total f values left cell rest
     → Reaches total g values left cell rest
 
--- so an answer, whole, to the same bits is the same: the same items and rest, or the same refusal at the same bit
+-- So the whole answer to the same bits is the same: the same items and rest, or the same refusal at the same bit.
 abbrev pub AnswersAgain : Type 0
 AnswersAgain = (shown known : List ℕ) (f g : Form (List ℕ)) (old new : Place) (items after : List Item)
     (result : Result (Unit {0}) ReadError)

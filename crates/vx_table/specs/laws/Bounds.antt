@@ -1,4 +1,4 @@
--- The range that rows give a field in numbers, and that the field's items lie in it.
+-- The range in numbers that rows give a field, and that the field's items lie in it.
 use Rattle.std.specs.Prelude.{◌≡◌, ℕ, ℤ, pos, Bool, true, false, not, ◌&&◌, ◌||◌, ◌==◌, int_le, IsTrue, List, All, None}
 use Rattle.vx_bits.specs.declared.list.Item.{Item}
 use Rattle.vx_table.specs.declared.rows.Term.TheVariants.{Number}
@@ -15,32 +15,32 @@ use Rattle.vx_table.specs.Spelling.{fault_of, items_along}
 use Rattle.vx_table.specs.Values.{Follows}
 use Rattle.vx_table.specs.EachField.{rows_pass, sections_pass}
 
--- a value from one number to another
+-- A value from one number to another.
 abbrev pub lies : ℕ → ℕ → ℤ → Bool
 lies low high v = int_le (pos low) v && int_le v (pos high)
 
--- an item of this field lies there
+-- An item of this field lies there.
 abbrev pub LiesIn : ℕ → ℕ → ℕ → Item → Type 0
 LiesIn of low high item = item.field ≡ of → IsTrue (lies low high item.value)
 
--- values of this field that break no range lie there
+-- Values of this field that are in its range lie there.
 abbrev pub KeepsRange : ℕ → ℕ → ℕ → Cell ℕ → Type 0
 KeepsRange of low high cell = IsTrue (has_value cell.coding) → cell.field ≡ of → (v : ℤ) → fault_of cell.limits v ≡ None
     → IsTrue (lies low high v)
 
--- the range is this one; multiples of a unit are from 1 on
+-- The range is this one; multiples of a unit begin with 1.
 abbrev pub is_range : ℕ → ℕ → Limits Formula → Bool
 is_range low high (Within (pos l) (Plain (Number h)) fault) = (l == low) && (h == high)
 is_range low high (Multiple unit h fault) = (1 == low) && (h == high)
 is_range low high limits = false
 
--- a row of this field says so; a gap, which may have the number of a field beside it, says nothing
+-- A row of this field says so; a gap, which may share its number with a field, says nothing.
 abbrev pub tells_range : ℕ → ℕ → ℕ → Row → Bool
 tells_range of low high (Field c) = not (has_value c.coding && c.field == of) || is_range low high c.limits
 tells_range of low high (Block presence n) = true
 tells_range of low high (Name name formula) = true
 
--- where each row of the field says so, its items lie there
+-- If each row of the field says so, then its items lie there.
 abbrev pub LieInRange : Type 0
 LieInRange = (of low high : ℕ) (rows : List Row) (s : List ℕ) (values : List ℤ) (end : List ℕ)
     → rows_pass (tells_range of low high) rows ≡ true → Follows (form_of rows s) values end

@@ -1,5 +1,5 @@
--- How many bits the values of a structure have at most, computed over its rows: each field's code has some at most, and the turns of
--- a block are bounded by the numbers that fields and names may have.
+-- The greatest number of bits of the values of a structure, computed over its rows: each field's code has a greatest length, and
+-- the turns of a block are bounded by the numbers that fields and names may have.
 use Rattle.std.specs.Prelude.{◌≡◌, ℕ, ℤ, zero, suc, ◌+◌, ◌-◌, ◌*◌, ◌^◌, ◌≤◌, min, Bool, true, not, ◌&&◌, ◌||◌, ◌==◌, cond, nat_le, List, [], ◌∷◌}
 use Rattle.std.specs.Prelude.{length, slice_index}
 use Rattle.vx_table.specs.declared.rows.Term.{Term}
@@ -21,27 +21,27 @@ use Rattle.vx_table.specs.Parts.{Section, sections_form}
 use Rattle.vx_table.specs.EachField.{rows_pass}
 use Rattle.vx_table.specs.Values.{Follows, bits_along}
 
--- Wherever a structure begins, its bits are so many, and its end is such, that this holds.
+-- Wherever a structure begins, this holds of the number of its bits and of its end.
 pub record EachSpelling {A : Type 0} (form : Form A) (Q : ℕ → A → Type 0) : Type 0 where
   pub at : (place : ℕ) (values : List ℤ) (end : A) → Follows form values end → Q (length (bits_along form place values)) end
 
 -- ---- the numbers of fields and names
 
--- a field or name has this number at most
+-- A field or name has at most this number.
 pub record Bound : Type 0 where
   pub of : ℕ
   pub greatest : ℕ
 
--- the bound of a field or name among these; without one it is as wide as any number
+-- The bound of a field or name among these; without one it is as wide as any number.
 abbrev pub greatest : List Bound → ℕ → ℕ
 greatest [] of = most
 greatest (bound ∷ bounds) of = cond (bound.of == of) bound.greatest (greatest bounds of)
 
--- the numbers of a scope keep their bounds
+-- The numbers of a scope are within their bounds.
 pub record IsWithin (bounds : List Bound) (s : List ℕ) : Type 0 where
   pub at : (of : ℕ) → slice_index s of ≤ greatest bounds of
 
--- what formulas are then at most
+-- The greatest values of formulas then,
 abbrev pub greatest_term : List Bound → Term → ℕ
 greatest_term bounds (Number n) = n
 greatest_term bounds (Latest of) = greatest bounds of
@@ -62,7 +62,7 @@ greatest_value bounds (AtMost a b) = 1
 greatest_value bounds (Both a b) = 1
 greatest_value bounds (Either a b) = 1
 
--- and the numbers of a field's values, by its code and by its range
+-- and the greatest numbers of a field's values, by its code and by its range.
 unfoldable pub greatest_coded : List Bound → Coding Formula → ℕ
 greatest_coded bounds (Fixed width) = 2 ^ min (greatest_value bounds width) 32 - 1
 greatest_coded bounds coding = most
@@ -73,7 +73,7 @@ greatest_ranged bounds (ranges.Within low high fault) = greatest_value bounds hi
 greatest_ranged bounds (ranges.Below bound fault) = greatest_value bounds bound
 greatest_ranged bounds (ranges.Multiple unit high fault) = high
 
--- Rows keep the bounds: none gives a field, a name or the number of a turn a greater number.
+-- Rows are within the bounds: none gives a field, a name or the number of a turn a greater number.
 unfoldable pub presence_keeps : List Bound → Presence → Bool
 presence_keeps bounds (When holds) = true
 presence_keeps bounds (Repeat counter times) = nat_le (greatest_value bounds times) (greatest bounds counter)
@@ -91,7 +91,7 @@ sections_keep bounds (section ∷ more) =
 
 -- ---- bits
 
--- no code has more
+-- The greatest number of bits of a code.
 unfoldable pub code_bits : List Bound → Coding Formula → ℕ
 code_bits bounds (Fixed width) = min (greatest_value bounds width) 32
 code_bits bounds Golomb = 63
@@ -102,12 +102,12 @@ code_bits bounds Trailing = 8
 code_bits bounds Absent = 0
 code_bits bounds Refused = 0
 
--- nor has a block more turns
+-- The greatest number of turns of a block.
 unfoldable pub most_turns : List Bound → Presence → ℕ
 most_turns bounds (When holds) = 1
 most_turns bounds (Repeat counter times) = greatest_value bounds times
 
--- the bits of len rows, those behind the first skip of them
+-- The bits of len rows after the first skip rows.
 unfoldable pub part_bits : List Bound → ℕ → ℕ → List Row → ℕ
 part_bits bounds skip len [] = 0
 part_bits bounds (suc skip) len (row ∷ rows) = part_bits bounds skip len rows
@@ -117,7 +117,7 @@ part_bits bounds zero (suc len) (Block presence n ∷ rows) =
     most_turns bounds presence * part_bits bounds 0 (min n len) rows + part_bits bounds (min n len) (len - min n len) rows
 part_bits bounds zero (suc len) (Name name formula ∷ rows) = part_bits bounds 0 len rows
 
--- of a table, and of a structure of several
+-- The bits of a table, and of a structure of several.
 unfoldable pub table_bits : List Bound → List Row → ℕ
 table_bits bounds rows = part_bits bounds 0 (length rows) rows
 
@@ -126,7 +126,7 @@ sections_bits bounds [] = 0
 sections_bits bounds (section ∷ more) =
     most_turns bounds section.presence * table_bits bounds section.rows + sections_bits bounds more
 
--- At most so many bits are spelled, and the numbers at the end keep their bounds.
+-- At most this many bits are spelled, and the numbers at the end are within their bounds.
 abbrev pub IsShort : List Bound → ℕ → Form (List ℕ) → Type 0
 IsShort bounds bits form = EachSpelling form (λ size end. (size ≤ bits) × IsWithin bounds end)
 

@@ -1,4 +1,4 @@
--- What may follow the values of a table: anything where it has no trailing, nothing where it ends in one; and what structures end in.
+-- What may follow the values of a table: anything if it has no trailing, nothing if it ends in one; and how structures end.
 use Rattle.std.specs.Prelude.{◌≡◌, ℕ, ℤ, ◌+◌, ◌%◌, Bool, true, false, ◌||◌, ◌&&◌, not, nat_lt, List, [], ◌∷◌, ◌++◌, length}
 use Rattle.vx_bits.specs.Codes.{bits_of, one_from, EndsInNoZero}
 use Rattle.vx_table.specs.declared.rows.Coding.{Coding}
@@ -17,18 +17,18 @@ unfoldable pub is_trailing : {N : Type 0} → Coding N → Bool
 is_trailing Trailing = true
 is_trailing coding = false
 
--- some row is a trailing
+-- Some row is a trailing.
 unfoldable pub has_trailing : List Row → Bool
 has_trailing [] = false
 has_trailing (Field c ∷ rows) = is_trailing c.coding || has_trailing rows
 has_trailing (row ∷ rows) = has_trailing rows
 
--- where none is, anything may follow the values of the table
+-- If no row is one, then anything may follow the values of the table.
 abbrev pub ClosesWithoutTrailing : Type 0
 ClosesWithoutTrailing = (rows : List Row) (s : List ℕ) (place : ℕ) (values : List ℤ) (rest : List Bool) → has_trailing rows ≡ false
     → Closes (form_of rows s) place values rest
 
--- no row but the last one, which is in no block, is a trailing
+-- No row except the last one, which is in no block, is a trailing.
 unfoldable pub trails_last : List Row → Bool
 trails_last [] = true
 trails_last (Field c ∷ []) = true
@@ -36,12 +36,12 @@ trails_last (Field c ∷ row ∷ rows) = not (is_trailing c.coding) && trails_la
 trails_last (Block presence n ∷ rows) = (nat_lt n (length rows) || not (has_trailing rows)) && trails_last rows
 trails_last (row ∷ rows) = trails_last rows
 
--- where that holds, the values of the table may end the bits
+-- If that holds, then the values of the table may end the bits.
 abbrev pub ClosesAtTheEnd : Type 0
 ClosesAtTheEnd = (rows : List Row) (s : List ℕ) (place : ℕ) (values : List ℤ) → trails_last rows ≡ true
     → Closes (form_of rows s) place values []
 
--- The same of a structure of several tables.
+-- The same for a structure of several tables.
 abbrev pub comes_once : Presence → Bool
 comes_once (When holds) = true
 comes_once (Repeat counter times) = false
@@ -65,16 +65,16 @@ PartsCloseAtTheEnd = (parts : List Part) (s : List ℕ) (place : ℕ) (values : 
 
 -- ---- what structures end in
 
--- A one stands last in the bits, which begin at this place, but for zeros up to the byte boundary.
+-- The last bits, after a place, are a one and zeros up to the byte boundary.
 pub record EndsWithStop (place : ℕ) (bits : List Bool) : Type 0 where
   pub front : List Bool
   pub all : bits ≡ front ++ one_from (place + length front)
 
--- Wherever a structure begins, its bits end so.
+-- Wherever a structure begins, its bits end in this way.
 pub record EndsInStop {A : Type 0} (form : Form A) : Type 0 where
   pub at : (place : ℕ) (values : List ℤ) (end : A) → Follows form values end → EndsWithStop place (bits_along form place values)
 
--- So do those of a table whose last row, in no block, is a one and zeros, be it a trailing,
+-- So do those of a table whose last row, in no block, is a one and zeros, or a trailing,
 unfoldable pub is_stop : {N : Type 0} → Coding N → Bool
 is_stop OneAndZeros = true
 is_stop Trailing = true
@@ -90,7 +90,7 @@ ends_in_stop (Name name formula ∷ rows) = ends_in_stop rows
 abbrev pub TablesStop : Type 0
 TablesStop = (rows : List Row) (s : List ℕ) → ends_in_stop rows ≡ true → EndsInStop (form_of rows s)
 
--- of a structure whose last table, which is always there, is one,
+-- those of a structure whose last table is one and is always present,
 unfoldable pub sections_end_in_stop : List Section → Bool
 sections_end_in_stop [] = false
 sections_end_in_stop (section ∷ []) = comes_always section.presence && ends_in_stop section.rows
@@ -99,7 +99,7 @@ sections_end_in_stop (section ∷ next ∷ more) = sections_end_in_stop (next �
 abbrev pub SectionsStop : Type 0
 SectionsStop = (sections : List Section) (s : List ℕ) → sections_end_in_stop sections ≡ true → EndsInStop (sections_form sections s)
 
--- and of one that ends in one that does.
+-- and those of a structure that ends in one that does.
 abbrev pub StopsTogether : Type 0
 StopsTogether = (form : Form (List ℕ)) (next : List ℕ → Form (List ℕ)) → ((s : List ℕ) → EndsInStop (next s)) → EndsInStop (form >>= next)
 
