@@ -14,8 +14,12 @@ use vx_io::{Source, SourceFailed};
 
 /// A byte stream that is fed in pieces, from which NAL units are taken one at a time.
 ///
+/// The units, their offsets and the refusal don't depend on how the bytes are cut into pieces.
+///
 /// It holds the bytes from the start of the unit that has begun; `make_room` drops those before. Of a unit of
-/// more than 2^23 bytes it holds only the last five, and the refusal that it would get so far.
+/// more than 2^23 bytes it holds only the last five, and the refusal that it would get so far. After `next` has
+/// returned `None`, all bytes except the last two have been searched, and after `make_room` it holds at most
+/// 2^23 + 2 bytes.
 #[derive(Drop)]
 pub struct Splitter {
     // The bytes held, and the place of the first of them in the stream.

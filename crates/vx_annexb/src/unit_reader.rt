@@ -336,10 +336,13 @@ impl UnitReader {
     /// Returns the next unit of the source, or `None` at its end. Reads only until a further unit's end is
     /// seen.
     ///
+    /// When it returns a unit, the source has given fewer than 65,536 bytes after the three that show the
+    /// unit's end.
+    ///
     /// # Errors
     ///
     /// - `Refused` with the refusal of a unit, of a stray byte, or of the source's length. Every later call
-    /// returns it again, and reads nothing.
+    ///   returns it again, and reads nothing.
     /// - `Memory` if memory runs out. No bytes are lost.
     /// - `SourceFailed` if a read failed. Don't call it again.
     pub fn take(&mut self, source: &mut dyn Source) -> Result<Option<Span>, TakeFault>

@@ -12,14 +12,14 @@ use std::alloc::{AllocError, Global};
 use thiserror::Error;
 use vx_layout::{Bounds, Numbers, Rect};
 
-/// Why a frame has no tile lines.
+/// The reason why a frame has no tile lines.
 #[derive(Clone, Copy, Debug, PartialEq, Eq, Error)]
 pub enum LineError {
     /// Memory ran out.
     #[error("out of memory")]
     Memory,
-    /// The lowest region through which a line passes that isn't its own, or of whose own lines one is missing, or which
-    /// doesn't follow the region above it where the line between the two is left out.
+    /// The lowest region that doesn't keep its tile lines: a line passes through it that isn't its own, or one of its lines
+    /// is missing, or it doesn't follow the region above it although the line between the two is left out.
     #[error("region {0} doesn't keep its tile lines")]
     Lines(u16),
 }
@@ -35,14 +35,15 @@ impl From<AllocError> for LineError {
     }
 }
 
-/// The bounds of the tile columns and tile rows of the frame that regions make up, in CTUs.
+/// Returns the bounds of the tile columns and tile rows of the frame that regions make up, in CTUs.
 ///
-/// `corners` are the regions in CTUs, which fit together, and `parts` the pictures in them, of their sizes. Takes memory
-/// for its answer alone.
+/// `corners` are the regions in CTUs, which must fit together, and `parts` the pictures in them, with their sizes. Takes
+/// memory only for the result.
 ///
 /// # Errors
 ///
-/// `Lines(k)` exactly where k is the lowest region that doesn't keep its tile lines, or `Memory` where memory runs out.
+/// - `Lines(k)` exactly if k is the lowest region that doesn't keep its tile lines.
+/// - `Memory` if memory runs out.
 pub fn fit_lines(
     alloc: Global,
     corners: &[Rect],
@@ -62,7 +63,7 @@ pub fn fit_lines(
     Ok((columns, rows))
 }
 
-/// The vertical lines of a frame.
+/// Returns the vertical lines of a frame.
 fn vertical_lines(alloc: Global, corners: &[Rect], parts: &[Numbers]) -> Result<Bounds, AllocError>
     requires { AreFramed corners.now parts.now }
     ensures { IfOk result (λ bounds. AreBounds (IsVertical corners.now parts.now) bounds) }
@@ -74,7 +75,7 @@ fn vertical_lines(alloc: Global, corners: &[Rect], parts: &[Numbers]) -> Result<
     Ok(bounds)
 }
 
-/// The horizontal lines of a frame.
+/// Returns the horizontal lines of a frame.
 fn horizontal_lines(
     alloc: Global,
     corners: &[Rect],
@@ -90,7 +91,7 @@ fn horizontal_lines(
     Ok(bounds)
 }
 
-/// A column that no region passes.
+/// Returns a column that no region extends past.
 fn right_end(corners: &[Rect]) -> u32
     requires { All (λ s. s.x + s.w ≤ greatest_size) corners.now }
     ensures reach { All (λ s. s.x + s.w ≤ result) corners.now }
@@ -103,7 +104,7 @@ fn right_end(corners: &[Rect]) -> u32
     end
 }
 
-/// A row that no region passes.
+/// Returns a row that no region extends past.
 fn bottom_end(corners: &[Rect]) -> u32
     requires { All (λ s. s.y + s.h ≤ greatest_size) corners.now }
     ensures reach { All (λ s. s.y + s.h ≤ result) corners.now }
@@ -116,7 +117,7 @@ fn bottom_end(corners: &[Rect]) -> u32
     end
 }
 
-/// Appends a number where it is a line.
+/// Appends a number if it is a line.
 fn push_where(bounds: &mut Bounds, is_line: bool, n: u32) -> Result<(), AllocError>
     requires { is_line ≡ true → Rises (bounds.old ++ n ∷ []) }
     ensures { OnOk result (bounds.new ≡ bounds.old ++ cond is_line (n ∷ []) []) }
@@ -127,7 +128,7 @@ fn push_where(bounds: &mut Bounds, is_line: bool, n: u32) -> Result<(), AllocErr
     bounds.push(n)
 }
 
-/// Whether a number is a vertical line.
+/// Returns whether a number is a vertical line.
 fn is_vertical(corners: &[Rect], parts: &[Numbers], n: u32) -> bool
     requires { length corners.now ≡ length parts.now }
     ensures line { OnTrue result (IsVertical corners.now parts.now n) }
@@ -141,7 +142,7 @@ fn is_vertical(corners: &[Rect], parts: &[Numbers], n: u32) -> bool
     false
 }
 
-/// Whether a number is a horizontal line.
+/// Returns whether a number is a horizontal line.
 fn is_horizontal(corners: &[Rect], parts: &[Numbers], n: u32) -> bool
     requires { length corners.now ≡ length parts.now }
     ensures line { OnTrue result (IsHorizontal corners.now parts.now n) }
@@ -150,7 +151,7 @@ fn is_horizontal(corners: &[Rect], parts: &[Numbers], n: u32) -> bool
     is_full(corners, parts, n) && !is_dropped(corners, parts, n)
 }
 
-/// Whether a horizontal line is left out.
+/// Returns whether a horizontal line is left out.
 fn is_dropped(corners: &[Rect], parts: &[Numbers], n: u32) -> bool
     requires { length corners.now ≡ length parts.now }
     ensures dropped { OnTrue result (IsDropped corners.now parts.now n) }
@@ -162,7 +163,7 @@ fn is_dropped(corners: &[Rect], parts: &[Numbers], n: u32) -> bool
     all_let_drop(corners, parts, n) && is_full(corners, parts, n)
 }
 
-/// Whether a number is a full horizontal line.
+/// Returns whether a number is a full horizontal line.
 fn is_full(corners: &[Rect], parts: &[Numbers], n: u32) -> bool
     requires { length corners.now ≡ length parts.now }
     ensures line { OnTrue result (IsFull corners.now parts.now n) }
@@ -176,7 +177,7 @@ fn is_full(corners: &[Rect], parts: &[Numbers], n: u32) -> bool
     false
 }
 
-/// Whether a horizontal line passes through a region that it is no inner line of.
+/// Returns whether a horizontal line passes through a region and is no inner line of it.
 fn crosses_some(corners: &[Rect], parts: &[Numbers], n: u32) -> bool
     requires { length corners.now ≡ length parts.now }
     ensures some { OnTrue result (OfSome corners.now parts.now (λ s p. Crosses s p n)) }
@@ -190,7 +191,7 @@ fn crosses_some(corners: &[Rect], parts: &[Numbers], n: u32) -> bool
     false
 }
 
-/// Whether each region lets a horizontal line be left out.
+/// Returns whether each region lets a horizontal line be left out.
 fn all_let_drop(corners: &[Rect], parts: &[Numbers], n: u32) -> bool
     requires { length corners.now ≡ length parts.now }
     ensures all { OnTrue result (OfEachRegion corners.now parts.now (λ s p. LetsDrop s p n)) }
@@ -204,7 +205,7 @@ fn all_let_drop(corners: &[Rect], parts: &[Numbers], n: u32) -> bool
     true
 }
 
-/// Whether a horizontal line passes through a region and is no inner line of it.
+/// Returns whether a horizontal line passes through a region and is no inner line of it.
 fn crosses(region: Rect, part: &Numbers, n: u32) -> bool
     ensures crosses { OnTrue result (Crosses region part.now n) }
     ensures fine { OnFalse result (¬ Crosses region part.now n) }
@@ -212,7 +213,8 @@ fn crosses(region: Rect, part: &Numbers, n: u32) -> bool
     passes_inside(region.y, region.h, n) && !has_row(region, part, n)
 }
 
-/// Whether a region lets a horizontal line be left out: it is no inner line of it, and where it bounds it, there is one tile.
+/// Returns whether a region lets a horizontal line be left out: it is no inner line of it, and if it is a border of it,
+/// there is one tile.
 fn lets_drop(region: Rect, part: &Numbers, n: u32) -> bool
     ensures lets { OnTrue result (LetsDrop region part.now n) }
     ensures holds { OnFalse result (¬ LetsDrop region part.now n) }
@@ -223,7 +225,7 @@ fn lets_drop(region: Rect, part: &Numbers, n: u32) -> bool
     !is_border(region, n) || has_one_tile(part)
 }
 
-/// Whether a number is a column bound of the picture in a region.
+/// Returns whether a number is a column bound of the picture in a region.
 fn has_column(region: Rect, part: &Numbers, n: u32) -> bool
     ensures bound { OnTrue result (HasBound region.x part.now.columns n) }
     ensures none { OnFalse result (¬ HasBound region.x part.now.columns n) }
@@ -231,7 +233,7 @@ fn has_column(region: Rect, part: &Numbers, n: u32) -> bool
     has_bound(region.x, &part.columns, n)
 }
 
-/// Whether a number is a row bound of the picture in a region.
+/// Returns whether a number is a row bound of the picture in a region.
 fn has_row(region: Rect, part: &Numbers, n: u32) -> bool
     ensures bound { OnTrue result (HasBound region.y part.now.rows n) }
     ensures none { OnFalse result (¬ HasBound region.y part.now.rows n) }
@@ -239,7 +241,7 @@ fn has_row(region: Rect, part: &Numbers, n: u32) -> bool
     has_bound(region.y, &part.rows, n)
 }
 
-/// Whether a number is a bound of a picture that stands at `from`.
+/// Returns whether a number is a bound of a picture at `from`.
 fn has_bound(from: u32, own: &Bounds, n: u32) -> bool
     ensures bound { OnTrue result (HasBound from own.now n) }
     ensures none { OnFalse result (¬ HasBound from own.now n) }
@@ -247,7 +249,7 @@ fn has_bound(from: u32, own: &Bounds, n: u32) -> bool
     from <= n && own.has(n - from)
 }
 
-/// Whether a number stands strictly between the borders of what begins at `from`.
+/// Returns whether a number is strictly between the borders of what begins at `from`.
 fn passes_inside(from: u32, size: u32, n: u32) -> bool
     ensures inside { OnTrue result (PassesInside from size n) }
     ensures outside { OnFalse result (¬ PassesInside from size n) }
@@ -255,7 +257,7 @@ fn passes_inside(from: u32, size: u32, n: u32) -> bool
     from < n && n - from < size
 }
 
-/// Whether a number is the upper or the lower border of a region.
+/// Returns whether a number is the upper or the lower border of a region.
 fn is_border(region: Rect, n: u32) -> bool
     ensures border { OnTrue result (IsBorder region n) }
     ensures other { OnFalse result (¬ IsBorder region n) }
@@ -263,7 +265,7 @@ fn is_border(region: Rect, n: u32) -> bool
     region.y == n || region.y <= n && n - region.y == region.h
 }
 
-/// Whether a picture has one tile.
+/// Returns whether a picture has one tile.
 fn has_one_tile(part: &Numbers) -> bool
     ensures one { OnTrue result (HasOneTile part.now) }
     ensures several { OnFalse result (¬ HasOneTile part.now) }
@@ -271,7 +273,7 @@ fn has_one_tile(part: &Numbers) -> bool
     part.columns.len() == 2 && part.rows.len() == 2
 }
 
-/// The lowest region that doesn't keep its lines.
+/// Returns the lowest region that doesn't keep its lines.
 fn lowest_broken(
     columns: &Bounds,
     rows: &Bounds,
@@ -292,7 +294,7 @@ fn lowest_broken(
     None
 }
 
-/// Whether a region keeps its lines.
+/// Returns whether a region keeps its lines.
 fn keeps_lines(
     columns: &Bounds,
     rows: &Bounds,
@@ -314,7 +316,7 @@ fn keeps_lines(
     are_own(rows, region.y, region.h, &parts[k].rows) && follows(corners, parts, k)
 }
 
-/// Whether the bounds strictly inside a picture that stands at `from` are its own.
+/// Returns whether the bounds strictly inside a picture at `from` are its own.
 fn are_own(bounds: &Bounds, from: u32, size: u32, own: &Bounds) -> bool
     requires { from + size ≤ greatest_size }
     ensures own { OnTrue result (AreOwn bounds.now from size own.now) }
@@ -328,7 +330,7 @@ fn are_own(bounds: &Bounds, from: u32, size: u32, own: &Bounds) -> bool
     true
 }
 
-/// Whether a region follows the one above it where the line between the two is left out.
+/// Returns whether a region follows the one above it if the line between the two is left out.
 fn follows(corners: &[Rect], parts: &[Numbers], k: usize) -> bool
     requires place { k < length corners.now }
     requires same { length corners.now ≡ length parts.now }
@@ -341,7 +343,7 @@ fn follows(corners: &[Rect], parts: &[Numbers], k: usize) -> bool
     0 < k && stands_on(corners[k - 1], corners[k])
 }
 
-/// Whether a region stands right upon another, with the same columns.
+/// Returns whether a region is directly above another, with the same columns.
 fn stands_on(upper: Rect, lower: Rect) -> bool
     ensures on { OnTrue result (StandsOn upper lower) }
     ensures off { OnFalse result (¬ StandsOn upper lower) }

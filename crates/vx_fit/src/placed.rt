@@ -1,4 +1,4 @@
-//! Regions of a frame, and why they don't fit together.
+//! Regions of a frame, and the faults for which they don't fit together.
 ghost use Rattle.std.specs.Prelude.{◌≡◌, ◌+◌, ◌*◌, ◌%◌, ◌<◌, ◌≤◌, ◌^◌};
 ghost use Rattle.std.specs.Bool.{OnTrue, OnFalse};
 ghost use Rattle.vx_fit.specs.Placing.{IsInRange, IsOnGrid, in_ctus};
@@ -23,14 +23,14 @@ pub struct Placed {
 /// The greatest width and height of a frame, in luma samples.
 pub const GREATEST_SIZE: u32 = 16384;
 
-/// Why regions don't fit together into a frame. A region is named by its index.
+/// The reason why regions don't fit together into a frame. A region is named by its index.
 #[derive(Clone, Copy, Debug, PartialEq, Eq, Error)]
 pub enum FitFault {
     /// The frame is wider or higher than [`GREATEST_SIZE`].
     #[error("the frame is too large")]
     TooLarge,
-    /// The lowest region whose corner isn't on the grid of CTUs; else the lowest that overlaps one before it; else 0,
-    /// where a position of the frame is in no region.
+    /// The lowest region whose corner isn't on the grid of CTUs; otherwise the lowest that overlaps one before it;
+    /// otherwise 0, if a position of the frame is in no region.
     #[error("region {0} doesn't fit into the frame")]
     Geometry(u16),
     /// The lowest region with a CTU whose left or upper neighbour lies in a later region.
@@ -39,7 +39,7 @@ pub enum FitFault {
 }
 
 impl Placed {
-    /// The column right behind it.
+    /// Returns the column just after it.
     pub(crate) fn right(&self) -> u32
         requires { IsInRange self.now }
         ensures { result ≡ self.now.x + self.now.w }
@@ -47,7 +47,7 @@ impl Placed {
         self.x + self.w
     }
 
-    /// The row right below it.
+    /// Returns the row just below it.
     pub(crate) fn bottom(&self) -> u32
         requires { IsInRange self.now }
         ensures { result ≡ self.now.y + self.now.h }
@@ -55,7 +55,7 @@ impl Placed {
         self.y + self.h
     }
 
-    /// How many positions it covers.
+    /// Returns the number of positions that it covers.
     pub(crate) fn area(&self) -> u64
         requires { IsInRange self.now }
         ensures { result ≡ self.now.w * self.now.h }
@@ -63,7 +63,7 @@ impl Placed {
         u64::from(self.w) * u64::from(self.h)
     }
 
-    /// Whether its corner stands on the grid of CTUs of `ctb` times `ctb` samples.
+    /// Returns whether its corner is on the grid of CTUs of `ctb` times `ctb` samples.
     pub(crate) fn is_on_grid(&self, ctb: u32) -> bool
         requires { 1 ≤ ctb }
         ensures on { OnTrue result (IsOnGrid ctb self.now) }
@@ -72,7 +72,7 @@ impl Placed {
         self.x % ctb == 0 && self.y % ctb == 0
     }
 
-    /// Whether both cover a position.
+    /// Returns whether both cover a position.
     #[tactic(auto, unfolding(crate::specs::inner::Searches::overlaps))]
     pub(crate) fn overlaps(&self, other: &Placed) -> bool
         requires { IsInRange self.now × IsInRange other.now }
@@ -82,7 +82,7 @@ impl Placed {
             && self.y.max(other.y) < self.bottom().min(other.bottom())
     }
 
-    /// Its CTUs, a last one that is cut off counted whole.
+    /// Returns its CTUs; a last one that is cut off counts as whole.
     pub fn in_ctus(&self, ctb: u32) -> Rect
         requires { 1 ≤ ctb }
         ensures { result ≡ in_ctus ctb self.now }

@@ -1,4 +1,4 @@
-//! Whether regions fit together into one frame.
+//! The check that regions fit together into one frame.
 ghost use Rattle.std.specs.Prelude.{◌≡◌, ℕ, ◌+◌, ◌*◌, ◌<◌, ◌≤◌, All, IfOk, IfErr, OnOk, length};
 ghost use Rattle.std.specs.Bool.{OnTrue, OnFalse};
 ghost use Rattle.std.specs.List.{AllPairs};
@@ -9,13 +9,13 @@ ghost use Rattle.vx_fit.specs.inner.Searches.{areas};
 
 use crate::placed::{FitFault, GREATEST_SIZE, Placed};
 
-/// The width and height of the frame that regions make up, in luma samples, for CTUs of `ctb` times `ctb` samples.
+/// Returns the width and height, in luma samples, of the frame that regions make up, for CTUs of `ctb` times `ctb` samples.
 ///
 /// Takes no memory, and time with the square of the number of regions.
 ///
 /// # Errors
 ///
-/// The first of the faults that the regions have, in the order of [`FitFault`], exactly where there is one.
+/// The first of the regions' faults, in the order of [`FitFault`], exactly if there is one.
 pub fn fit_regions(placed: &[Placed], ctb: u32) -> Result<(u32, u32), FitFault>
     requires count { (1 ≤ length placed.now) × (length placed.now ≤ 64) }
     requires numbers { All IsInRange placed.now }
@@ -43,7 +43,7 @@ pub fn fit_regions(placed: &[Placed], ctb: u32) -> Result<(u32, u32), FitFault>
     Ok((width, height))
 }
 
-/// How far right a region reaches at most.
+/// Returns how far right the regions reach.
 fn frame_width(placed: &[Placed]) -> u32
     requires { All IsInRange placed.now }
     ensures width { result ≡ frame_width placed.now }
@@ -56,7 +56,7 @@ fn frame_width(placed: &[Placed]) -> u32
     width
 }
 
-/// How far down a region reaches at most.
+/// Returns how far down the regions reach.
 fn frame_height(placed: &[Placed]) -> u32
     requires { All IsInRange placed.now }
     ensures height { result ≡ frame_height placed.now }
@@ -69,7 +69,7 @@ fn frame_height(placed: &[Placed]) -> u32
     height
 }
 
-/// The lowest region whose corner is off the grid of CTUs.
+/// Returns the lowest region whose corner is off the grid of CTUs.
 fn lowest_off_grid(placed: &[Placed], ctb: u32) -> Option<u16>
     requires count { length placed.now ≤ 64 }
     requires ctb { 1 ≤ ctb }
@@ -83,7 +83,7 @@ fn lowest_off_grid(placed: &[Placed], ctb: u32) -> Option<u16>
     None
 }
 
-/// The lowest region that overlaps one before it.
+/// Returns the lowest region that overlaps one before it.
 fn lowest_overlap(placed: &[Placed]) -> Option<u16>
     requires count { length placed.now ≤ 64 }
     requires numbers { All IsInRange placed.now }
@@ -97,7 +97,7 @@ fn lowest_overlap(placed: &[Placed]) -> Option<u16>
     None
 }
 
-/// Whether a region overlaps one before it.
+/// Returns whether a region overlaps one before it.
 fn overlaps_lower(placed: &[Placed], k: usize) -> bool
     requires place { k < length placed.now }
     requires numbers { All IsInRange placed.now }
@@ -112,7 +112,7 @@ fn overlaps_lower(placed: &[Placed], k: usize) -> bool
     false
 }
 
-/// Whether a position of the frame is in no region, where no two overlap: their areas don't add up to its own.
+/// Returns whether a position of the frame is in no region, if no two overlap: their areas don't add up to the frame's.
 fn leaves_gap(placed: &[Placed], width: u32, height: u32) -> bool
     requires count { length placed.now ≤ 64 }
     requires numbers { All IsInRange placed.now }
@@ -124,7 +124,7 @@ fn leaves_gap(placed: &[Placed], width: u32, height: u32) -> bool
     areas(placed) != u64::from(width) * u64::from(height)
 }
 
-/// The sum of the regions' areas.
+/// Returns the sum of the regions' areas.
 fn areas(placed: &[Placed]) -> u64
     requires count { length placed.now ≤ 64 }
     requires numbers { All IsInRange placed.now }
@@ -137,7 +137,7 @@ fn areas(placed: &[Placed]) -> u64
     sum
 }
 
-/// The lowest region that comes too early.
+/// Returns the lowest region that comes too early.
 fn lowest_early(placed: &[Placed], ctb: u32) -> Option<u16>
     requires count { length placed.now ≤ 64 }
     requires ctb { 1 ≤ ctb }
@@ -151,7 +151,7 @@ fn lowest_early(placed: &[Placed], ctb: u32) -> Option<u16>
     None
 }
 
-/// Whether a CTU of a region has its left or upper neighbour in a later one.
+/// Returns whether a CTU of a region has its left or upper neighbour in a later one.
 fn comes_too_early(placed: &[Placed], ctb: u32, k: usize) -> bool
     requires place { k < length placed.now }
     requires ctb { 1 ≤ ctb }

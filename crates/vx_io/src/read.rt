@@ -36,7 +36,7 @@ pub trait Source: Drop {
     ///
     /// # Errors
     ///
-    /// `SourceFailed` if the read failed. It takes nothing from the source; `into` is unspecified.
+    /// `SourceFailed` if the read failed, only with a fault counted. It takes nothing from the source; `into` is unspecified.
     fn read(&mut self, into: &mut [u8]) -> Result<usize, SourceFailed>
         ensures bound { ReadsAtMost result into.new }
         ensures bytes { ReadConsumes (bytes_left self.old) (bytes_left self.new) result into.new }

@@ -9,7 +9,7 @@ use thiserror::Error;
 
 /// A list of numbers that rises from 0: the bounds of tile columns or tile rows, in CTUs (H.266 6.5.1).
 ///
-/// Two neighbours bound a tile column or row, and the last number is the picture's width or height.
+/// Each tile column or row lies between two neighbouring numbers, and the last number is the picture's width or height.
 #[derive(Drop)]
 pub struct Bounds {
     numbers: Vec<u32>,
@@ -31,7 +31,7 @@ impl Bounds {
     ghost use Rattle.std.specs.Bool.{OnTrue, OnFalse};
     ghost use Rattle.vx_layout.specs.Bounds.{Rises, last};
 
-    /// No bounds yet. Takes no memory.
+    /// Returns an empty list. Takes no memory.
     pub fn new(alloc: Global) -> Bounds
         ensures { result ≡ [] }
     {
@@ -40,11 +40,11 @@ impl Bounds {
         }
     }
 
-    /// Appends a bound: 0 first, and then each above the last.
+    /// Appends a bound. The first is 0, and each other is above the one before it.
     ///
     /// # Errors
     ///
-    /// Where memory runs out, and the list then stays as it was.
+    /// `AllocError` if memory runs out. The list is then unchanged.
     pub fn push(&mut self, entry: u32) -> Result<(), AllocError>
         requires { Rises (self.old ++ entry ∷ []) }
         ensures ok { OnOk result (self.new ≡ self.old ++ entry ∷ []) }
@@ -54,7 +54,7 @@ impl Bounds {
         Ok(())
     }
 
-    /// The number of bounds.
+    /// Returns the number of bounds.
     pub fn len(&self) -> usize
         ensures value { result ≡ length self.now }
         ensures rises { Rises self.now }
@@ -62,7 +62,7 @@ impl Bounds {
         self.numbers.len()
     }
 
-    /// The bound at an index, counted from 0.
+    /// Returns the bound at index `i`, from 0.
     pub fn item(&self, i: usize) -> u32
         requires { i < length self.now }
         ensures value { slice_get self.now i ≡ Some result }
@@ -71,7 +71,7 @@ impl Bounds {
         self.numbers[i]
     }
 
-    /// The last bound: the picture's width or height.
+    /// Returns the last bound: the picture's width or height.
     pub fn last(&self) -> u32
         requires { 0 < length self.now }
         ensures value { result ≡ last self.now }
@@ -80,7 +80,7 @@ impl Bounds {
         self.numbers[self.numbers.len() - 1]
     }
 
-    /// Whether a number is a bound. Time goes with the logarithm of the number of bounds.
+    /// Returns whether a number is a bound. Takes time with the logarithm of the number of bounds.
     pub fn has(&self, number: u32) -> bool
         ensures found { OnTrue result (Contains self.now number) }
         ensures missing { OnFalse result (¬ Contains self.now number) }
@@ -89,7 +89,7 @@ impl Bounds {
         self.numbers.binary_search(&number).is_ok()
     }
 
-    /// The index of a number, where it is a bound. Time goes with the logarithm of the number of bounds.
+    /// Returns the index of a number, or `None` if it is no bound. Takes time with the logarithm of the number of bounds.
     pub fn index_of(&self, number: u32) -> Option<usize>
         ensures index { MatchOption result (¬ Contains self.now number) (λ i. (i < length self.now) × (slice_index self.now i ≡ number)) }
         ensures rises { Rises self.now }
@@ -98,13 +98,13 @@ impl Bounds {
     }
 }
 
-/// Why explicit sizes give no bounds.
+/// The reason why explicit sizes give no bounds.
 #[derive(Clone, Copy, Debug, PartialEq, Eq, Error)]
 pub enum TileError {
     /// Memory ran out.
     #[error("out of memory")]
     Memory,
-    /// The explicit sizes pass the total first at this index.
+    /// The sum of the explicit sizes first exceeds the total at this index.
     #[error("the sizes pass the total")]
     Overflow(usize),
 }
@@ -120,13 +120,14 @@ impl From<AllocError> for TileError {
     }
 }
 
-/// The bounds of tile columns or rows of a picture of `total` CTUs, from their explicit sizes (H.266 6.5.1).
+/// Returns the bounds of tile columns or rows of `total` CTUs, from their explicit sizes (H.266 6.5.1).
 ///
-/// The last explicit size is repeated while it fits, and a rest is one more tile column or row.
+/// The last explicit size is repeated while it fits, and the rest is one more tile column or row.
 ///
 /// # Errors
 ///
-/// `Overflow(i)` exactly where the explicit sizes pass the total first at index `i`, or `Memory` where memory runs out.
+/// - `Overflow(i)` exactly if the sum of the explicit sizes first exceeds the total at index `i`.
+/// - `Memory` if memory runs out.
 pub fn tile_bounds(alloc: Global, explicit: &[u32], total: u32) -> Result<Bounds, TileError>
     requires some { 0 < length explicit.now }
     requires sizes { All (λ size. 1 ≤ size) explicit.now }
@@ -143,7 +144,7 @@ pub fn tile_bounds(alloc: Global, explicit: &[u32], total: u32) -> Result<Bounds
     Ok(bounds)
 }
 
-/// Appends the sums of the explicit sizes, and gives the last of them.
+/// Appends the sums of the explicit sizes, and returns the last of them.
 fn push_explicit(bounds: &mut Bounds, explicit: &[u32], total: u32) -> Result<u32, TileError>
     requires start { bounds.old ≡ 0 ∷ [] }
     requires sizes { All (λ size. 1 ≤ size) explicit.now }
@@ -163,7 +164,7 @@ fn push_explicit(bounds: &mut Bounds, explicit: &[u32], total: u32) -> Result<u3
     Ok(at)
 }
 
-/// Appends the sums of the sizes behind the explicit ones, from `at` on.
+/// Appends the sums of the sizes after the explicit ones, from `at` on.
 fn push_repeated(bounds: &mut Bounds, mut at: u32, size: u32, total: u32) -> Result<(), AllocError>
     requires rises { Rises bounds.old }
     requires last { (0 < length bounds.old) × (last bounds.old ≡ at) }

@@ -1,4 +1,4 @@
-//! Entry points of a slice, counted from the tile bounds that pass through it.
+//! Entry points of a slice, counted from the tile bounds inside it.
 ghost use Rattle.std.specs.Prelude.{◌≡◌, ◌+◌, ◌<◌, ◌≤◌, ◌&&◌, nat_lt, length};
 ghost use Rattle.vx_layout.specs.Bounds.{Rises, last};
 ghost use Rattle.vx_layout.specs.Regions.{inner};
@@ -7,10 +7,10 @@ ghost use Rattle.vx_layout.specs.Scan.{entries};
 use crate::bounds::Bounds;
 use crate::rect::Rect;
 
-/// The number of entry points of a slice that lies in the picture (H.266 7.4.8, NumEntryPoints).
+/// Returns the number of entry points of a slice that lies in the picture (H.266 7.4.8, NumEntryPoints).
 ///
-/// It is one less than the tiles that the rectangle meets; with `sync` (sps_entropy_coding_sync_enabled_flag), one less
-/// than the CTU rows of all its parts of tiles. A slice without a CTU has none.
+/// It is one less than the number of tiles that the rectangle meets; with `sync` (sps_entropy_coding_sync_enabled_flag),
+/// one less than the number of CTU rows of all its parts of tiles. A slice without a CTU has none.
 pub fn count_entries(columns: &Bounds, rows: &Bounds, slice: Rect, sync: bool) -> u32
     requires rises { Rises columns.now × Rises rows.now }
     requires across { 0 < slice.w → 0 < slice.h → slice.x + slice.w ≤ last columns.now }
@@ -30,7 +30,7 @@ pub fn count_entries(columns: &Bounds, rows: &Bounds, slice: Rect, sync: bool) -
     across * down - 1
 }
 
-/// The number of bounds strictly inside the `size` columns or rows from `from` on.
+/// Returns the number of bounds strictly inside the `size` columns or rows from `from` on.
 fn count_inner(bounds: &Bounds, from: u32, size: u32) -> u32
     requires { last bounds.now ≤ 512 }
     ensures count { result ≡ length (inner bounds.now from size) }
@@ -45,7 +45,7 @@ fn count_inner(bounds: &Bounds, from: u32, size: u32) -> u32
     count
 }
 
-/// Whether a number stands strictly inside the `size` numbers from `from` on.
+/// Returns whether a number is strictly inside the `size` numbers from `from` on.
 fn is_inner(n: u32, from: u32, size: u32) -> bool
     ensures { result ≡ (nat_lt from n && nat_lt n (from + size)) }
 {

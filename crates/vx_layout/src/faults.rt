@@ -17,9 +17,9 @@ use crate::paint::map_of;
 use crate::rect::RectList;
 use std::alloc::Global;
 
-/// SUBPICS_FAULT: a CTU lies in no subpicture or in two, or a subpicture leaves the picture or holds no CTU.
+/// Checks for SUBPICS_FAULT: a CTU lies in no subpicture or in two, or a subpicture extends past the picture or has no CTU.
 ///
-/// Else a map of the picture on which each CTU bears the place of its subpicture, counted from 1.
+/// Otherwise returns a map of the picture on which each CTU has the number of its subpicture, from 1.
 pub fn check_subpics(alloc: Global, numbers: &Numbers) -> Result<Grid, LayoutError>
     requires limits { IsInLimits numbers.now }
     ensures map { IfOk result (λ map. IsMapOf map numbers.now.subpics (width numbers.now) (height numbers.now)) }
@@ -36,7 +36,7 @@ pub fn check_subpics(alloc: Global, numbers: &Numbers) -> Result<Grid, LayoutErr
     Ok(map)
 }
 
-/// Whether each rectangle holds a CTU and lies in the picture.
+/// Returns whether each rectangle has a CTU and lies in the picture.
 pub fn are_parts(rects: &RectList, width: u32, height: u32) -> bool
     ensures inside { OnTrue result (All (IsPart width height) rects.now) }
     ensures outside { OnFalse result (¬ All (IsPart width height) rects.now) }
@@ -49,7 +49,7 @@ pub fn are_parts(rects: &RectList, width: u32, height: u32) -> bool
     true
 }
 
-/// TILE_SPLIT_FAULT: a tile and a subpicture share CTUs and neither lies in the other as it has to.
+/// Checks for TILE_SPLIT_FAULT: a tile and a subpicture share CTUs, and neither lies in the other as required.
 pub fn check_tiles(alloc: Global, numbers: &Numbers) -> Result<(), LayoutError>
     requires limits { IsInLimits numbers.now }
     requires parts { All (IsPart (width numbers.now) (height numbers.now)) numbers.now.subpics }
@@ -66,7 +66,7 @@ pub fn check_tiles(alloc: Global, numbers: &Numbers) -> Result<(), LayoutError>
     Ok(())
 }
 
-/// SLICE_COVER_FAULT: a CTU lies in no slice or in two.
+/// Checks for SLICE_COVER_FAULT: a CTU lies in no slice or in two.
 pub fn check_slices(alloc: Global, numbers: &Numbers) -> Result<(), LayoutError>
     requires limits { IsInLimits numbers.now }
     ensures cover { OnOk result (SlicesCover numbers.now) }
@@ -82,7 +82,7 @@ pub fn check_slices(alloc: Global, numbers: &Numbers) -> Result<(), LayoutError>
     Ok(())
 }
 
-/// ORDER_FAULT: a CTU's left or upper neighbour lies in a later slice.
+/// Checks for ORDER_FAULT: a CTU's left or upper neighbour lies in a later slice.
 pub fn check_order(alloc: Global, numbers: &Numbers, groups: &[RectList]) -> Result<(), LayoutError>
     requires limits { IsInLimits numbers.now }
     requires subpics { SubpicsCover numbers.now }

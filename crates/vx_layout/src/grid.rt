@@ -1,4 +1,4 @@
-//! A picture's CTUs with a mark at each, on which rectangles are painted.
+//! The CTUs of a picture with a mark at each, on which rectangles are painted.
 ghost use Rattle.std.specs.Prelude.{◌≡◌, ◌==◌, ℕ, ◌+◌, ◌*◌, ◌<◌, ◌≤◌, ◌≢◌, ◌^◌, min, length, vec_len, IfOk, MatchOption};
 
 use crate::rect::Rect;
@@ -19,7 +19,7 @@ impl Grid {
     ghost use Rattle.std.specs.Bool.{OnTrue, OnFalse};
     ghost use Rattle.vx_layout.specs.inner.Marks.{IsBare, IsRising, IsTaken, IsTakenIn, Paints, PaintsRect, RisesAt, mark_at};
 
-    /// A picture with the mark 0 at each CTU.
+    /// Returns a picture with the mark 0 at each CTU.
     #[tactic(auto, unfolding(crate::specs::inner::Marks::mark_at))]
     pub fn new(alloc: Global, width: usize, height: usize) -> Result<Grid, AllocError>
         requires { (width ≤ 512) × (height ≤ 512) }
@@ -33,14 +33,14 @@ impl Grid {
         })
     }
 
-    /// Whether a CTU lies in the picture.
+    /// Returns whether a CTU lies in the picture.
     pub fn has(&self, x: usize, y: usize) -> bool
         ensures { IsTrue result ↔ ((x < self.now.width) × (y < self.now.height)) }
     {
         x < self.width && y < self.height
     }
 
-    /// The mark of a CTU.
+    /// Returns the mark of a CTU.
     #[tactic(auto, unfolding(crate::specs::inner::Marks::mark_at))]
     pub fn at(&self, x: usize, y: usize) -> u32
         requires { (x < self.now.width) × (y < self.now.height) }
@@ -49,7 +49,7 @@ impl Grid {
         self.marks[y * self.width + x]
     }
 
-    /// Gives a CTU a mark.
+    /// Sets the mark of a CTU.
     #[tactic(auto, unfolding(crate::specs::inner::Marks::mark_at))]
     fn set(&mut self, x: usize, y: usize, mark: u32)
         requires { (x < self.old.width) × (y < self.old.height) }
@@ -63,7 +63,7 @@ impl Grid {
         self.marks[place] = mark;
     }
 
-    /// Paints a part of a row, and answers whether no CTU of it had a mark.
+    /// Paints a part of a row, and returns whether no CTU of it had a mark.
     fn paint_row(&mut self, y: usize, left: usize, right: usize, mark: u32) -> bool
         requires { (left ≤ right) × (right ≤ self.old.width) × (y < self.old.height) }
         ensures painted { OnTrue result (Paints self.old self.new left right y (y + 1) mark) }
@@ -78,7 +78,7 @@ impl Grid {
         true
     }
 
-    /// Paints columns of some rows, and answers whether no CTU of them had a mark.
+    /// Paints columns of some rows, and returns whether no CTU of them had a mark.
     fn paint_rows(&mut self, columns: (usize, usize), rows: (usize, usize), mark: u32) -> bool
         requires columns { (columns.0 ≤ columns.1) × (columns.1 ≤ self.old.width) }
         requires rows { (rows.0 ≤ rows.1) × (rows.1 ≤ self.old.height) }
@@ -93,7 +93,7 @@ impl Grid {
         true
     }
 
-    /// Paints a rectangle as far as it lies in the picture, and answers whether no CTU of it had a mark.
+    /// Paints the part of a rectangle that lies in the picture, and returns whether no CTU of it had a mark.
     pub fn paint(&mut self, rect: Rect, mark: u32) -> bool
         ensures painted { OnTrue result (PaintsRect self.old self.new rect mark) }
         ensures taken { OnFalse result (IsTakenIn self.old rect) }
@@ -103,7 +103,7 @@ impl Grid {
         self.paint_rows(columns, rows, mark)
     }
 
-    /// Whether each CTU of a row has a mark.
+    /// Returns whether each CTU of a row has a mark.
     fn is_row_marked(&self, y: usize) -> bool
         requires { y < self.now.height }
         ensures marked { OnTrue result ((x : ℕ) → x < self.now.width → mark_at self.now x y ≢ 0) }
@@ -117,7 +117,7 @@ impl Grid {
         true
     }
 
-    /// Whether each CTU has a mark.
+    /// Returns whether each CTU has a mark.
     pub fn is_marked(&self) -> bool
         ensures marked { OnTrue result ((x y : ℕ) → x < self.now.width → y < self.now.height → mark_at self.now x y ≢ 0) }
         ensures bare { OnFalse result (IsBare self.now) }
@@ -130,7 +130,7 @@ impl Grid {
         true
     }
 
-    /// Whether the left and upper neighbours of a CTU have no higher mark.
+    /// Returns whether the left and upper neighbours of a CTU have no higher mark.
     fn rises_at(&self, x: usize, y: usize) -> bool
         requires { (x < self.now.width) × (y < self.now.height) }
         ensures rises { OnTrue result (RisesAt self.now x y) }
@@ -146,7 +146,7 @@ impl Grid {
         true
     }
 
-    /// Whether no CTU of a row has a left or upper neighbour with a higher mark.
+    /// Returns whether no CTU of a row has a left or upper neighbour with a higher mark.
     fn row_rises(&self, y: usize) -> bool
         requires { y < self.now.height }
         ensures rises { OnTrue result ((x : ℕ) → x < self.now.width → RisesAt self.now x y) }
@@ -160,7 +160,7 @@ impl Grid {
         true
     }
 
-    /// Whether no CTU has a left or upper neighbour with a higher mark.
+    /// Returns whether no CTU has a left or upper neighbour with a higher mark.
     pub fn is_rising(&self) -> bool
         ensures rises { OnTrue result (IsRising self.now) }
         ensures falls { OnFalse result (¬ IsRising self.now) }
@@ -174,7 +174,7 @@ impl Grid {
     }
 }
 
-/// Where the `size` numbers from `from` on begin and end below `limit`.
+/// Returns the start and the end of the `size` numbers from `from` on, cut at `limit`.
 fn clip(from: u32, size: u32, limit: usize) -> (usize, usize)
     ensures { result ≡ (min from limit, min (from + size) limit) }
 {

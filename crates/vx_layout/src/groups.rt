@@ -1,4 +1,4 @@
-//! The slices of each subpicture, gathered in one go over the slice list.
+//! The slices of each subpicture, collected in one pass over the slice list.
 ghost use Rattle.std.specs.Prelude.{◌≡◌, ℕ, ◌<◌, ◌≤◌, true, List, [], ◌∷◌, ◌++◌, All, Any, length, vec_len, OnOk, IfOk, IfErr, MatchOption};
 ghost use Rattle.std.specs.List.{flat_map, slice_index_or};
 ghost use Rattle.vx_layout.specs.Faults.{IfFault, SlicesFit, SubpicsCover, height, slice_split_fault, width};
@@ -12,9 +12,10 @@ use crate::numbers::{LayoutError, Numbers, SLICE_SPLIT_FAULT};
 use crate::rect::{Rect, RectList};
 use std::alloc::{AllocError, Global};
 
-/// The slices of each subpicture, in the order of the slice list, or SLICE_SPLIT_FAULT: a slice that lies in no subpicture.
+/// Returns the slices of each subpicture, in the order of the slice list, or SLICE_SPLIT_FAULT: a slice lies in no
+/// subpicture.
 ///
-/// `owners` tells the place of the subpicture of each CTU.
+/// `owners` gives the number of the subpicture of each CTU, from 1.
 pub fn group_slices(
     alloc: Global,
     numbers: &Numbers,
@@ -39,7 +40,7 @@ pub fn group_slices(
     Ok(groups)
 }
 
-/// Groups without a slice.
+/// Returns `count` groups without a slice.
 fn empty_groups(alloc: Global, count: usize) -> Result<Vec<RectList>, AllocError>
     ensures count { IfOk result (λ groups. length groups.items ≡ count) }
     ensures empty { IfOk result (λ groups. (i : ℕ) (e : List Rect) → i < count → slice_index_or groups.items i e ≡ []) }
@@ -88,7 +89,7 @@ fn add_to_all(groups: &mut Vec<RectList>, slice: Rect) -> Result<(), AllocError>
     Ok(())
 }
 
-/// The index of the subpicture that a slice lies in.
+/// Returns the index of the subpicture in which a slice lies.
 fn owner_of(slice: Rect, subpics: &RectList, owners: &Grid) -> Option<usize>
     requires some { (0 < slice.w) × (0 < slice.h) }
     requires owners { IsMapOf owners.now subpics.now owners.now.width owners.now.height }
@@ -107,7 +108,7 @@ fn owner_of(slice: Rect, subpics: &RectList, owners: &Grid) -> Option<usize>
     }
 }
 
-/// The groups one after another.
+/// Returns the groups one after another, as one list.
 pub fn flatten(alloc: Global, groups: &[RectList]) -> Result<RectList, AllocError>
     ensures { IfOk result (λ all. all ≡ flat_map (λ group. group) groups.now) }
 {

@@ -1,4 +1,4 @@
-//! Laws on layouts and on tile bounds: functions that do nothing, each with laws as its contract.
+//! Laws on layouts and on tile bounds. A law is a function without a body whose contract states it.
 ghost use Rattle.std.specs.Prelude.{◌≡◌, ℕ, ◌-◌, ◌<◌, ◌≤◌, ◌↔◌, true, List, ◌∷◌, All, length, sum};
 ghost use Rattle.vx_layout.specs.Bounds.{Rises, last, sizes_between, sums_after};
 ghost use Rattle.vx_layout.specs.Faults.{LiesIn};
@@ -10,82 +10,86 @@ ghost use Rattle.vx_layout.specs.Regions.{region_of};
 ghost use Rattle.vx_layout.specs.declared.numbers.Numbers.{Numbers};
 ghost use Rattle.vx_layout.specs.declared.rect.Rect.{Rect};
 
-/// Numbers have one lowest fault at most, and a layout has none.
+/// If numbers have a lowest fault, then they have no other one; and a layout has none.
 pub fn lowest_fault_is_one()
     ensures one { LowestFaultIsOne }
     ensures none { LayoutHasNoFault }
 {}
 
-/// The slices of a layout, by rising subpicture and then by their place in the slice list, cover the picture once.
+/// If the slices of a layout are ordered by subpicture and then by their place in the slice list, then they cover the
+/// picture once.
 pub fn in_order_covers_once()
     ensures { InOrderCoversOnce }
 {}
 
-/// The slices of a subpicture cover it once, and nothing of the picture outside it.
+/// If numbers are a layout, then the slices of a subpicture cover it once, and nothing of the picture outside it.
 pub fn slices_cover_subpicture()
     ensures { SlicesCoverSubpicture }
 {}
 
-/// The slices of a layout lie in the picture, and their order runs right and down: of two slices the one that holds a
-/// CTU further left and further up, or level, comes first. So the picture's upper left CTU lies in the first slice that
-/// holds a CTU, and the lower right one in the last.
+/// If numbers are a layout, then its slices lie in the picture and their order runs right and down. Of two slices, the one
+/// with a CTU further left and further up, or level, comes first. So the picture's upper left CTU lies in the first slice
+/// that has a CTU, and the lower right one in the last.
 pub fn slices_run_right_and_down()
     ensures inside { SlicesLieInPicture }
     ensures order { SlicesRunRightAndDown }
 {}
 
-/// The first slice of a layout's first subpicture begins the picture, and the last slice of the last one ends it,
-/// where they hold CTUs.
+/// If they have CTUs, then the first slice of a layout's first subpicture begins the picture, and the last slice of the
+/// last subpicture ends it.
 pub fn slices_begin_and_end()
     ensures first { FirstSliceBegins }
     ensures last { LastSliceEnds }
 {}
 
-/// The region of a layout's subpicture is a layout.
+/// If numbers are a layout, then the region of each of its subpictures is a layout.
 pub fn region_is_layout()
     ensures { (n : Numbers) (k : ℕ) → HasLayout n → k < length n.subpics → HasLayout (region_of n k) }
 {}
 
-/// A region of a region is a region: bounds that are cut twice are cut once, and the only subpicture of a region is it.
+/// If a region is taken of a region, then the result is a region of the whole: bounds that are cut twice are cut once, and
+/// the only subpicture of a region is the region.
 pub fn regions_nest()
     ensures bounds { CutsNest }
     ensures region { (n : Numbers) (k : ℕ) → region_of (region_of n k) 0 ≡ region_of n k }
 {}
 
-/// The CTUs of a region's slices, in their order, are those of the subpicture's slices, counted from its corner.
+/// If numbers are a layout, then the CTUs of a region's slices, in their order, are those of the subpicture's slices,
+/// counted from its corner.
 pub fn region_keeps_slices()
     ensures slices { RegionKeepsSlices }
     ensures ctus { RegionKeepsCtus }
 {}
 
-/// Where a layout's slices hold CTUs, are whole tiles or whole rows of one tile, and those in one tile stand next to
-/// one another, so is it with a region's slices and the region's tiles.
+/// If a layout's slices have CTUs, are whole tiles or whole rows of one tile, and those in one tile are next to each other
+/// in the list, then the same holds for a region's slices and the region's tiles.
 pub fn region_is_listable()
     ensures { RegionIsListable }
 {}
 
-/// A rectangle lies in another by its borders exactly where each of its CTUs does.
+/// A rectangle lies in another by its borders if and only if each of its CTUs does.
 pub fn fits_by_ctus()
     ensures { (r s : Rect) → (fits r s ≡ true) ↔ LiesIn r s }
 {}
 
-/// Bounds with the same members are the same bounds.
+/// If bounds have the same members, then they are the same.
 pub fn bounds_by_members()
     ensures { BoundsByMembers }
 {}
 
-/// Tile bounds rise from 0 to the total.
+/// If explicit sizes fit, then the tile bounds rise from 0 to the total.
 pub fn bounds_reach_total()
     ensures { BoundsReachTotal }
 {}
 
-/// Sizes that are all listed are the tile sizes, and the bounds are their partial sums.
+/// If all sizes are listed, then they are the tile sizes, and the bounds are their partial sums.
 pub fn listed_are_sizes()
     ensures sizes { ListedAreSizes }
     ensures bounds { ListedGiveSums }
 {}
 
-/// Bounds are given back by the sizes between them, all listed; and sizes by the bounds that are their partial sums.
+/// If the sizes between bounds are all listed, then they give the bounds again; and if bounds are partial sums, then the
+/// sizes between them are the summands.
 pub fn bounds_by_sizes()
     ensures count { (bounds : List ℕ) → length (sizes_between bounds) ≡ length bounds - 1 }
     ensures some { (bounds : List ℕ) → Rises bounds → All (λ size. 1 ≤ size) (sizes_between bounds) }
@@ -94,8 +98,8 @@ pub fn bounds_by_sizes()
     ensures sizes { (sizes : List ℕ) → sizes_between (0 ∷ sums_after 0 sizes) ≡ sizes }
 {}
 
-/// The heights that are written for the slices of a tile are read back as all its heights, by the rule for tile sizes;
-/// and some are written for several slices.
+/// If heights are written for the slices of a tile, then all its heights are read back by the rule for tile sizes; and for
+/// several slices at least one height is written.
 pub fn heights_are_read_back()
     ensures read { HeightsAreReadBack }
     ensures some { (heights : List ℕ) → 2 ≤ length heights → 0 < length (written_heights heights) }

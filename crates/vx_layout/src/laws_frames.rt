@@ -1,95 +1,96 @@
-//! Laws on a frame that is put together of several pictures: functions that do nothing, each with laws as its contract.
+//! Laws on a frame that is composed of several pictures. A law is a function without a body whose contract states it.
 ghost use Rattle.std.specs.Prelude.{◌≡◌};
 ghost use Rattle.vx_layout.specs.laws.Frames.{CutBoundsAreOwn, FillsByIndex, FirstBegins, FrameAloneIsLayout, FrameHasPictures, FrameIsLayout, FrameIsListable, FrameSlicesAreInOrder, FrameSlicesCoverOnce, FrameSlicesFit, FrameSlicesGrow, FrameSlicesOfRegion, FrameSlicesOfRegionCounted, FrameSlicesStandInOrder, LastEnds, MovingUndoesCounting, PlacedByIndex, PlacedFills, RunsFillTiles, SplitByBorders};
 ghost use Rattle.vx_layout.specs.Regions.{counted_from, moved_to};
 ghost use Rattle.vx_layout.specs.declared.rect.Rect.{Rect};
 
-/// A rectangle that is moved to a corner is what it was, counted from there, and one that is counted from a corner is
-/// what it was, moved to it.
+/// If a rectangle is moved to a corner and counted from it, then it is unchanged; so is one that is counted from a corner
+/// and moved back.
 pub fn moving_undoes_counting()
     ensures moved { (corner r : Rect) → counted_from corner (moved_to corner r) ≡ r }
     ensures counted { MovingUndoesCounting }
 {}
 
-/// Tiles and a part of the picture split one another well exactly where the part's left and right borders are bounds,
-/// and its upper and lower borders are too, or no bound at all passes through it.
+/// If tiles and a part of the picture are given, then they split one another well if and only if the part's left and right
+/// borders are bounds, and its upper and lower borders are too, or no bound at all passes through it.
 pub fn split_by_borders()
     ensures { SplitByBorders }
 {}
 
-/// Where the bounds strictly inside a region are a picture's own, so are the bounds that are cut to the region.
+/// If the bounds strictly inside a region are a picture's own, then so are the bounds that are cut to the region.
 pub fn cut_bounds_are_own()
     ensures { CutBoundsAreOwn }
 {}
 
-/// The first of rectangles that cover a picture once and stand in order begins it, and the last one ends it, where
-/// they are parts of it.
+/// If rectangles cover a picture once and are in order, then the first one begins it, and the last one ends it, provided
+/// that they are parts of it.
 pub fn first_begins_and_last_ends()
     ensures first { FirstBegins }
     ensures last { LastEnds }
 {}
 
-/// A picture that stands in a region fills it with its slices.
+/// If a picture is placed in a region, then it fills the region with its slices.
 pub fn placed_fills()
     ensures { PlacedFills }
 {}
 
-/// Slices that fill the regions of their index, and pictures that stand in them, do so pair by pair.
+/// If slices fill the regions with their index, then they do so pair by pair; and so for pictures that are placed in them.
 pub fn pictures_by_index()
     ensures fill { FillsByIndex }
     ensures placed { PlacedByIndex }
 {}
 
-/// Where the regions cover a frame once, and the slices of each picture make up the picture, the frame's slices cover it once.
+/// If the regions cover a frame once, and the slices of each picture make up the picture, then the frame's slices cover it
+/// once.
 pub fn frame_slices_cover_once()
     ensures { FrameSlicesCoverOnce }
 {}
 
-/// Where the regions stand in order, and the slices of each picture do, so do the frame's slices; region by region
-/// they are the frame's slice list itself.
+/// If the regions are in order, and the slices of each picture are, then so are the frame's slices; region by region they
+/// are the frame's slice list itself.
 pub fn frame_slices_stand_in_order()
     ensures order { FrameSlicesStandInOrder }
     ensures same { FrameSlicesAreInOrder }
 {}
 
-/// The frame's slices in a region are the slices of the picture there, moved to the region's corner; counted from the
-/// corner they are the picture's own.
+/// If regions cover a frame and pictures fill them, then the frame's slices in a region are the slices of the picture
+/// there, moved to the region's corner; counted from the corner they are the picture's own.
 pub fn frame_slices_of_region()
     ensures slices { FrameSlicesOfRegion }
     ensures counted { FrameSlicesOfRegionCounted }
 {}
 
-/// Each slice of the frame lies in a region.
+/// If pictures fill the regions, then each slice of the frame lies in a region.
 pub fn frame_slices_fit()
     ensures { FrameSlicesFit }
 {}
 
-/// The slices of one region more come behind those so far.
+/// If one more region is added, then its slices come after those so far.
 pub fn frame_slices_grow()
     ensures { FrameSlicesGrow }
 {}
 
-/// Pictures that stand in the regions of a frame, where the regions cover it and stand in order, make up a layout, and
-/// each is the layout's region.
+/// If pictures are placed in the regions of a frame, and the regions cover it and are in order, then they make up a layout,
+/// and each picture is the layout's region.
 pub fn frame_is_layout()
     ensures layout { FrameIsLayout }
     ensures regions { FrameHasPictures }
 {}
 
-/// Such a frame is a layout as one subpicture too, where it has a region.
+/// If such a frame has a region, then it is also a layout as one subpicture.
 pub fn frame_alone_is_layout()
     ensures { FrameAloneIsLayout }
 {}
 
-/// Where regions cover a frame once, in order, their borders split the tiles well, and each begins at a tile row or
-/// stands directly below the one before it, the regions of one tile stand next to one another.
+/// If regions cover a frame once, in order, their borders split the tiles well, and each begins at a tile row or is
+/// directly below the one before it, then the regions of one tile are next to each other in the list.
 pub fn runs_fill_tiles()
     ensures { RunsFillTiles }
 {}
 
-/// Where each picture's slices hold CTUs, are whole tiles or whole rows of one tile, and those in one tile stand next
-/// to one another, so is it with the frame's slices and the frame's tiles, if the regions of one tile stand next to
-/// one another.
+/// If each picture's slices have CTUs, are whole tiles or whole rows of one tile, and those in one tile are next to each
+/// other, then so it is with the frame's slices and the frame's tiles, provided that the regions of one tile are next to
+/// each other.
 pub fn frame_is_listable()
     ensures { FrameIsListable }
 {}

@@ -12,9 +12,9 @@ use crate::region::{count_from, cut};
 use std::alloc::{AllocError, Global};
 use std::marker::Model;
 
-/// The tiles, slices and subpictures of a picture, which break none of the rules on them.
+/// The tiles, slices and subpictures of a picture, which violate none of the rules on them.
 ///
-/// It is seen as its numbers.
+/// *Model:* its numbers.
 #[derive(Drop)]
 pub struct Layout {
     numbers: Numbers,
@@ -39,14 +39,15 @@ impl Layout {
     ghost use Rattle.vx_layout.specs.Regions.{region_of};
     ghost use Rattle.vx_layout.specs.Scan.{entries};
 
-    /// Takes numbers for a layout.
+    /// Checks numbers, and makes a layout of them.
     ///
-    /// Time goes with the CTUs, the slices, the subpictures and the tile bounds; a slice without a CTU lies in
-    /// each subpicture, and is gathered for each.
+    /// Takes time with the number of CTUs, slices, subpictures and tile bounds. A slice without a CTU lies in each
+    /// subpicture, and is stored for each.
     ///
     /// # Errors
     ///
-    /// The lowest fault, exactly where there is one, or `Memory` where memory runs out.
+    /// - `Fault` with the lowest fault, exactly if there is one.
+    /// - `Memory` if memory runs out.
     pub fn new(alloc: Global, numbers: Numbers) -> Result<Layout, LayoutError>
         requires { IsInLimits numbers }
         ensures numbers { IfOk result (λ layout. layout ≡ numbers) }
@@ -57,7 +58,7 @@ impl Layout {
         Ok(Layout { numbers, groups })
     }
 
-    /// The number of slices of a subpicture.
+    /// Returns the number of slices of a subpicture.
     pub fn slice_count(&self, subpic: u32) -> u32
         requires { subpic < length self.now.subpics }
         ensures count { result ≡ length (slices_in self.now subpic) }
@@ -66,7 +67,7 @@ impl Layout {
         self.groups[subpic as usize].len() as u32
     }
 
-    /// The rectangle of a slice, by the index of its subpicture and its address there.
+    /// Returns the rectangle of a slice, by the index of its subpicture and its address there.
     pub fn slice_rect(&self, subpic: u32, address: u32) -> Rect
         requires subpic { subpic < length self.now.subpics }
         requires address { address < length (slices_in self.now subpic) }
@@ -77,8 +78,9 @@ impl Layout {
         self.groups[subpic as usize].item(address as usize)
     }
 
-    /// The number of entry points of a slice, by the index of its subpicture and its address there: the CTUs that
-    /// stand in another tile than the CTU before, or with `sync` in another row (H.266 7.4.8, NumEntryPoints).
+    /// Returns the number of entry points of a slice, by the index of its subpicture and its address there.
+    ///
+    /// They are the CTUs in another tile than the CTU before, or with `sync` in another row (H.266 7.4.8, NumEntryPoints).
     pub fn entry_points(&self, subpic: u32, address: u32, sync: bool) -> u32
         requires subpic { subpic < length self.now.subpics }
         requires address { address < length (slices_in self.now subpic) }
@@ -89,11 +91,12 @@ impl Layout {
         count_entries(&self.numbers.columns, &self.numbers.rows, slice, sync)
     }
 
-    /// A subpicture as a layout of its own: its tile bounds and its slices, counted from its corner, and one subpicture.
+    /// Returns a subpicture as a layout of its own: its tile bounds and slices, counted from its corner, and one
+    /// subpicture.
     ///
     /// # Errors
     ///
-    /// Where memory runs out.
+    /// `AllocError` if memory runs out.
     pub fn region(&self, alloc: Global, subpic: u32) -> Result<Numbers, AllocError>
         requires { subpic < length self.now.subpics }
         ensures numbers { IfOk result (λ numbers. numbers ≡ region_of self.now subpic) }
@@ -119,11 +122,12 @@ impl Layout {
     }
 }
 
-/// The slices of each subpicture, where numbers have no fault.
+/// Returns the slices of each subpicture, if numbers have no fault.
 ///
 /// # Errors
 ///
-/// The lowest fault, exactly where there is one, or `Memory` where memory runs out.
+/// - `Fault` with the lowest fault, exactly if there is one.
+/// - `Memory` if memory runs out.
 fn checked_groups(alloc: Global, numbers: &Numbers) -> Result<Vec<RectList>, LayoutError>
     requires { IsInLimits numbers.now }
     ensures groups { IfOk result (λ groups. AreGroups groups.items numbers.now.slices numbers.now.subpics) }

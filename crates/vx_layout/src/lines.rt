@@ -1,4 +1,4 @@
-//! Look-up tables that tell in constant time which numbers are bounds, and whether one stands between two numbers.
+//! Look-up tables that give in constant time which numbers are bounds, and whether a bound lies between two numbers.
 ghost use Rattle.std.specs.Prelude.{◌≡◌, ℕ, ◌+◌, ◌<◌, length, IfOk};
 ghost use Rattle.vx_layout.specs.Bounds.{Rises};
 ghost use Rattle.vx_layout.specs.inner.Lines.{AreNextBounds, is_line, none_between, splits_by};
@@ -7,7 +7,7 @@ use crate::bounds::Bounds;
 use crate::rect::Rect;
 use std::alloc::{AllocError, Global};
 
-/// At each number up to the last bound, the first bound that isn't below it.
+/// Returns for each number up to the last bound the first bound that isn't below it.
 pub fn next_bounds(alloc: Global, bounds: &Bounds) -> Result<Vec<u32>, AllocError>
     requires { 0 < length bounds.now }
     ensures next { IfOk result (λ next. AreNextBounds bounds.now next.items) }
@@ -21,7 +21,7 @@ pub fn next_bounds(alloc: Global, bounds: &Bounds) -> Result<Vec<u32>, AllocErro
     Ok(next)
 }
 
-/// Whether the borders of a subpicture stand where the tiles allow it.
+/// Returns whether the borders of a subpicture are where the tiles allow them.
 #[tactic(auto, unfolding(crate::specs::inner::Lines::splits_by))]
 pub fn splits_by(subpic: Rect, columns: &[u32], rows: &[u32]) -> bool
     requires columns { (0 < subpic.w) × (subpic.x + subpic.w < length columns.now) }
@@ -36,7 +36,7 @@ pub fn splits_by(subpic: Rect, columns: &[u32], rows: &[u32]) -> bool
     sides && (ends || apart)
 }
 
-/// Whether a number is a bound.
+/// Returns whether a number is a bound.
 fn is_line(next: &[u32], x: usize) -> bool
     requires { x < length next.now }
     ensures { result ≡ is_line next.now x }
@@ -44,7 +44,7 @@ fn is_line(next: &[u32], x: usize) -> bool
     next[x] as usize == x
 }
 
-/// Whether no bound stands strictly between two numbers.
+/// Returns whether no bound is strictly between two numbers.
 fn none_between(next: &[u32], a: usize, b: usize) -> bool
     requires { a + 1 < length next.now }
     ensures { result ≡ none_between next.now a b }

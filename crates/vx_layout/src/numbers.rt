@@ -1,11 +1,11 @@
-//! The numbers that make up a picture's layout, and what can be wrong with them.
+//! The numbers of a picture's layout, and their faults.
 
 use crate::bounds::Bounds;
 use crate::rect::RectList;
 use std::alloc::AllocError;
 use thiserror::Error;
 
-/// Tiles, slices and subpictures of a picture, in CTUs.
+/// The tiles, slices and subpictures of a picture, in CTUs.
 #[derive(Drop)]
 pub struct Numbers {
     /// The bounds of the tile columns; the last is the picture's width.
@@ -18,9 +18,9 @@ pub struct Numbers {
     pub subpics: RectList,
 }
 
-/// A CTU lies in no subpicture or in two, or a subpicture leaves the picture or holds no CTU.
+/// A CTU lies in no subpicture or in two, or a subpicture extends past the picture or has no CTU.
 pub const SUBPICS_FAULT: u8 = 3;
-/// A tile and a subpicture share CTUs, and neither lies in the other as it has to.
+/// A tile and a subpicture share CTUs, and neither lies in the other as required.
 pub const TILE_SPLIT_FAULT: u8 = 4;
 /// A CTU lies in no slice or in two.
 pub const SLICE_COVER_FAULT: u8 = 5;
@@ -29,13 +29,13 @@ pub const SLICE_SPLIT_FAULT: u8 = 6;
 /// A CTU's left or upper neighbour lies in a later slice.
 pub const ORDER_FAULT: u8 = 7;
 
-/// Why numbers are no layout.
+/// The reason why numbers are no layout.
 #[derive(Clone, Copy, Debug, PartialEq, Eq, Error)]
 pub enum LayoutError {
     /// Memory ran out.
     #[error("out of memory")]
     Memory,
-    /// The lowest fault that the numbers have, from [`SUBPICS_FAULT`] to [`ORDER_FAULT`].
+    /// The lowest fault of the numbers, from [`SUBPICS_FAULT`] to [`ORDER_FAULT`].
     #[error("tiles, slices and subpictures are no layout")]
     Fault(u8),
 }

@@ -1,4 +1,4 @@
-//! Painting all rectangles of a list on a picture's CTUs.
+//! Painting of all rectangles of a list on a picture's CTUs.
 ghost use Rattle.std.specs.Prelude.{◌<◌, ◌≤◌, ◌^◌, length, IfOk, MatchOption};
 ghost use Rattle.vx_layout.specs.inner.Marks.{IsMapOf};
 ghost use Rattle.vx_layout.specs.Rects.{CoversOnce};
@@ -7,9 +7,9 @@ use crate::grid::Grid;
 use crate::rect::RectList;
 use std::alloc::{AllocError, Global};
 
-/// A map of the picture on which each CTU bears the place, counted from 1, of the rectangle that holds it.
+/// Returns a map of the picture on which each CTU has the number, from 1, of the rectangle that contains it.
 ///
-/// None exactly where not every CTU lies in exactly one of the rectangles.
+/// Returns `None` exactly if some CTU doesn't lie in exactly one of the rectangles.
 pub fn map_of(
     alloc: Global,
     rects: &RectList,

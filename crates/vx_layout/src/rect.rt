@@ -20,18 +20,18 @@ pub struct Rect {
     pub h: u32,
 }
 
-/// Rectangles, as the slices or the subpictures of a picture.
+/// A list of rectangles, such as the slices or the subpictures of a picture.
 pub type RectList = CopyList<Rect>;
 
 impl Rect {
-    /// Whether it has no CTU.
+    /// Returns whether it has no CTU.
     pub fn is_empty(&self) -> bool
         ensures { result ≡ (self.now.w == 0 || self.now.h == 0) }
     {
         self.w == 0 || self.h == 0
     }
 
-    /// Whether the CTU in column `x` and row `y` lies in it.
+    /// Returns whether the CTU in column `x` and row `y` lies in it.
     #[tactic(auto, unfolding(crate::specs::Rects::holds))]
     pub fn holds(&self, x: u32, y: u32) -> bool
         ensures { result ≡ holds self.now x y }
@@ -39,7 +39,7 @@ impl Rect {
         is_among(x, self.x, self.w) && is_among(y, self.y, self.h)
     }
 
-    /// Whether all its CTUs lie in `outer`.
+    /// Returns whether all its CTUs lie in `outer`.
     #[tactic(auto, unfolding(crate::specs::Rects::fits))]
     pub fn fits(&self, outer: &Rect) -> bool
         ensures { result ≡ fits self.now outer.now }
@@ -47,7 +47,7 @@ impl Rect {
         self.is_empty() || self.is_inside(outer)
     }
 
-    /// Whether it holds a CTU and lies in a picture of `width` times `height` CTUs.
+    /// Returns whether it has a CTU and lies in a picture of `width` times `height` CTUs.
     pub fn is_part_of(&self, width: u32, height: u32) -> bool
         ensures inside { OnTrue result (IsPart width height self.now) }
         ensures outside { OnFalse result (¬ IsPart width height self.now) }
@@ -55,7 +55,7 @@ impl Rect {
         ends_by(self.x, self.w, width) && ends_by(self.y, self.h, height)
     }
 
-    /// Whether none of its CTUs has its left or its upper neighbour in `later`.
+    /// Returns whether none of its CTUs has its left or its upper neighbour in `later`.
     pub fn precedes(&self, later: &Rect) -> bool
         ensures order { OnTrue result (Precedes self.now later.now) }
         ensures disorder { OnFalse result (¬ Precedes self.now later.now) }
@@ -63,7 +63,7 @@ impl Rect {
         precedes(*self, *later)
     }
 
-    /// The same rectangle, counted from the corner of another.
+    /// Returns the same rectangle, counted from the corner of another.
     pub fn counted_from(&self, corner: Rect) -> Rect
         ensures { result ≡ counted_from corner self.now }
     {
@@ -75,7 +75,7 @@ impl Rect {
         }
     }
 
-    /// Whether its borders lie in `outer`.
+    /// Returns whether its borders lie in `outer`.
     fn is_inside(&self, outer: &Rect) -> bool
         ensures { result ≡ ((nat_le outer.now.x self.now.x && nat_le (self.now.x + self.now.w) (outer.now.x + outer.now.w)) && (nat_le outer.now.y self.now.y && nat_le (self.now.y + self.now.h) (outer.now.y + outer.now.h))) }
     {
@@ -83,28 +83,28 @@ impl Rect {
     }
 }
 
-/// Whether `n` is one of the `size` numbers from `from` on.
+/// Returns whether `n` is one of the `size` numbers from `from` on.
 fn is_among(n: u32, from: u32, size: u32) -> bool
     ensures { result ≡ (nat_le from n && nat_lt n (from + size)) }
 {
     from <= n && u64::from(n) < u64::from(from) + u64::from(size)
 }
 
-/// Whether the `size` numbers from `from` on are among the `outer_size` from `outer` on.
+/// Returns whether the `size` numbers from `from` on are among the `outer_size` from `outer` on.
 fn is_part(from: u32, size: u32, outer: u32, outer_size: u32) -> bool
     ensures { result ≡ (nat_le outer from && nat_le (from + size) (outer + outer_size)) }
 {
     outer <= from && u64::from(from) + u64::from(size) <= u64::from(outer) + u64::from(outer_size)
 }
 
-/// Whether there are numbers from `from` on, `size` of them, and all are below `limit`.
+/// Returns whether `size` isn't 0 and the `size` numbers from `from` on are all below `limit`.
 fn ends_by(from: u32, size: u32, limit: u32) -> bool
     ensures { IsTrue result ↔ ((0 < size) × (from + size ≤ limit)) }
 {
     0 < size && u64::from(from) + u64::from(size) <= u64::from(limit)
 }
 
-/// Whether no CTU of `r` has its left or its upper neighbour in `s`, by their borders.
+/// Returns whether no CTU of `r` has its left or its upper neighbour in `s`, by their borders.
 #[tactic(auto, unfolding(crate::specs::inner::Neighbours::precedes))]
 fn precedes(r: Rect, s: Rect) -> bool
     ensures { result ≡ precedes r s }
@@ -114,7 +114,8 @@ fn precedes(r: Rect, s: Rect) -> bool
     !beside && !below
 }
 
-/// Whether one of the `size` numbers from `from` on is `step` above one of the `other_size` numbers from `other` on.
+/// Returns whether one of the `size` numbers from `from` on is `step` above one of the `other_size` numbers from `other`
+/// on.
 #[tactic(auto, unfolding(crate::specs::inner::Neighbours::meet))]
 fn meet(from: u32, size: u32, other: u32, other_size: u32, step: u32) -> bool
     requires { step ≤ 1 }

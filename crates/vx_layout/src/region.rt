@@ -1,4 +1,4 @@
-//! What of a layout lies in a subpicture, counted from the subpicture's corner.
+//! The part of a layout that lies in a subpicture, counted from the subpicture's corner.
 ghost use Rattle.std.specs.Prelude.{◌≡◌, ◌+◌, ◌-◌, ◌<◌, ◌&&◌, nat_lt, cond, [], ◌∷◌, ◌++◌, map, OnOk, IfOk};
 ghost use Rattle.vx_layout.specs.Bounds.{Rises};
 ghost use Rattle.vx_layout.specs.Regions.{counted_from, cut_bounds};
@@ -7,7 +7,7 @@ use crate::bounds::Bounds;
 use crate::rect::{Rect, RectList};
 use std::alloc::{AllocError, Global};
 
-/// The bounds of the `size` columns or rows from `from` on, counted from there.
+/// Returns the bounds of the `size` columns or rows from `from` on, counted from there.
 pub fn cut(alloc: Global, bounds: &Bounds, from: u32, size: u32) -> Result<Bounds, AllocError>
     requires { 0 < size }
     ensures { IfOk result (λ inner. inner ≡ cut_bounds bounds.now from size) }
@@ -21,7 +21,7 @@ pub fn cut(alloc: Global, bounds: &Bounds, from: u32, size: u32) -> Result<Bound
     Ok(inner)
 }
 
-/// Appends a bound, counted from `from`, where it stands strictly inside the `size` columns or rows from there on.
+/// Appends a bound, counted from `from`, if it is strictly inside the `size` columns or rows from there on.
 fn push_inner(inner: &mut Bounds, bound: u32, from: u32, size: u32) -> Result<(), AllocError>
     requires { from < bound → bound < from + size → Rises (inner.old ++ (bound - from) ∷ []) }
     ensures { OnOk result (inner.new ≡ inner.old ++ cond (nat_lt from bound && nat_lt bound (from + size)) ((bound - from) ∷ []) []) }
@@ -32,7 +32,7 @@ fn push_inner(inner: &mut Bounds, bound: u32, from: u32, size: u32) -> Result<()
     inner.push(bound - from)
 }
 
-/// Rectangles counted from the corner of another.
+/// Returns rectangles, counted from the corner of another.
 pub fn count_from(alloc: Global, rects: &RectList, corner: Rect) -> Result<RectList, AllocError>
     ensures { IfOk result (λ moved. moved ≡ map (counted_from corner) rects.now) }
 {

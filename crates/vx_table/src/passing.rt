@@ -25,6 +25,8 @@ impl<'a> Coder<()> for BitReader<'a> {
 
 /// Takes the fields of a table from `bits`, and stores their numbers in `scope`. Takes no memory.
 ///
+/// The result is that of a reader of the same bits.
+///
 /// # Errors
 ///
 /// The first refusal. `bits` is then at its field, and `scope` is unspecified.

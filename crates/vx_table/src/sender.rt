@@ -25,6 +25,8 @@ pub trait FieldSet {
 
 /// The source of a structure that is sent: new items for the fields in a set, and all items of another value.
 ///
+/// Sending writes the structure that a [`crate::Rewriter`] of the same items makes (law
+/// [`sent_as_rewritten`](crate::sent_as_rewritten)).
 /// *Model:* that of a [`crate::Rewriter`] which has the source's items of the other fields.
 #[derive(Drop)]
 pub struct Sender<'a, N: FieldSet> {
