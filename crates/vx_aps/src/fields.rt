@@ -14,11 +14,11 @@ use vx_fields::aps::{aps_adaptation_parameter_set_id, aps_params_type};
 pub struct ApsFields {
     /// The items of its type and its id.
     pub items: Fields,
-    /// How many bytes its body has.
+    /// The number of bytes of its body.
     pub body: Option<usize>,
 }
 
-/// How many bytes a body has; None where it can't end a unit.
+/// Returns the number of bytes of a body, or `None` if it can't end a unit.
 fn body_len(body: &[u8]) -> Option<usize>
     ensures { result ≡ body_seen body.now }
 {
@@ -31,7 +31,7 @@ fn body_len(body: &[u8]) -> Option<usize>
     Some(body.len())
 }
 
-/// The items of a type and an id.
+/// Returns the items of a type and an id.
 fn items_of(alloc: Global, kind: u8, id: Option<u8>) -> Result<Fields, AllocError>
     ensures { IfOk result (λ items. items ≡ items_seen kind id) }
 {
@@ -49,8 +49,13 @@ fn items_of(alloc: Global, kind: u8, id: Option<u8>) -> Result<Fields, AllocErro
     Ok(items)
 }
 
-/// Reads the fields of an adaptation parameter set, `adaptation_parameter_set_rbsp()`, clause 7.3.2.6, up to the first that
-/// [`read_aps`](crate::read_aps) refuses; also of a type that is dropped.
+/// Reads the fields of an adaptation parameter set, `adaptation_parameter_set_rbsp()` (clause 7.3.2.6), for display.
+///
+/// It reads up to the first field that [`read_aps`](crate::read_aps) refuses, and also sets of a type that is dropped.
+///
+/// # Errors
+///
+/// `AllocError` if memory runs out.
 pub fn read_aps_fields(alloc: Global, rbsp: &[u8]) -> Result<ApsFields, AllocError>
     ensures { IfOk result (AreFields rbsp.now) }
 {

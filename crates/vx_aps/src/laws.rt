@@ -1,12 +1,12 @@
-//! Laws of adaptation parameter sets: functions that do nothing, each with a law as its contract.
+//! Laws of adaptation parameter sets. A law is a function without a body whose contract states it.
 ghost use Rattle.vx_aps.specs.laws.Answers.{OneAnswer, SpelledIsAps};
 
-/// Bytes have one answer at most: they are one set, or dropped, or refused for one cause.
+/// If bytes are one set, are dropped, or are refused for a cause, then they are nothing else.
 pub fn one_answer()
     ensures { OneAnswer }
 {}
 
-/// What is written of a set is its RBSP, and is read as it.
+/// If a set is written, then the bytes are its RBSP, and are read as the set.
 pub fn spelled_is_aps()
     ensures { SpelledIsAps }
 {}

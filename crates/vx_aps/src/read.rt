@@ -1,4 +1,4 @@
-//! The RBSP of an adaptation parameter set read.
+//! Reading of the RBSP of an adaptation parameter set.
 ghost use Rattle.std.specs.Prelude.{◌≡◌};
 ghost use Rattle.vx_bits.specs.declared.refusal.ReadError.TheVariants.{Refused as IsRefusedFor};
 ghost use Rattle.vx_bits.specs.declared.refusal.Refusal.TheVariants.{Syntax as SyntaxOf};
@@ -10,26 +10,29 @@ use vx_bits::rules::APS_ID;
 use vx_bits::{BitCause, Bytes, ReadError, Refusal};
 use vx_fields::aps::{aps_body, aps_params_type};
 
-/// A field that can't be read, and where it begins.
+/// Returns the refusal of a field that can't be read, and where it begins.
 fn missed(field: u16, bit: u32, cause: BitCause) -> ReadError
     ensures { result ≡ IsRefusedFor (SyntaxOf field bit cause) }
 {
     ReadError::Refused(Refusal::Syntax { field, bit, cause })
 }
 
-/// How many ids a type has (clause 7.4.3.6).
+/// Returns the number of ids of a type (clause 7.4.3.6).
 pub(crate) fn ids(kind: u8) -> u8
     ensures { result ≡ ids_of_type kind }
 {
     if kind == LMCS { 4 } else { 8 }
 }
 
-/// Reads the RBSP of an adaptation parameter set, `adaptation_parameter_set_rbsp()`, clause 7.3.2.6. The answer is None
-/// exactly for the types 3 to 7, which are dropped whatever follows.
+/// Reads the RBSP of an adaptation parameter set, `adaptation_parameter_set_rbsp()` (clause 7.3.2.6).
+///
+/// Returns `None` exactly for the types 3 to 7, which are dropped whatever follows. The body is copied, and not parsed.
 ///
 /// # Errors
 ///
-/// An id past those of its type; a body without a byte, or that ends in 00; want of memory.
+/// - `Refused` if the first byte is missing, the id is outside the range of its type, the body is empty, or it ends in
+///   00.
+/// - `Memory` if memory runs out.
 pub fn read_aps(alloc: Global, rbsp: &[u8]) -> Result<Option<Aps>, ReadError>
     ensures { AnswersAps rbsp.now result }
 {

@@ -1,17 +1,18 @@
-//! Laws of the structures: functions that do nothing, each with a law as its contract.
+//! Laws of the structures. A law is a function without a body whose contract states it.
 ghost use Rattle.vx_ptl.specs.Spelling.{StructuresAreSpelled, RunsAreSpelled, WritesWhatWasRead};
 
-/// The items of values that follow a structure are written as the structure's spelling of them.
+/// If values follow a structure, then their items are written as the structure's spelling of them.
 pub fn structures_are_spelled()
     ensures { StructuresAreSpelled }
 {}
 
-/// The items of several structures in a row are written as their spellings, one behind another.
+/// If items are those of several structures in a row, then they are written as the structures' spellings, one after
+/// another.
 pub fn runs_are_spelled()
     ensures { RunsAreSpelled }
 {}
 
-/// The items of structures that were read are written as the bits that they were read from, at the same place.
+/// If structures were read, then their items are written at the same place as the bits from which they were read.
 pub fn writes_what_was_read()
     ensures { WritesWhatWasRead }
 {}

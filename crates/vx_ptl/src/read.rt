@@ -1,4 +1,4 @@
-//! Reading the structures.
+//! Reading of the structures.
 
 ghost use Rattle.std.specs.Prelude.{◌≡◌, ◌≤◌, length, slice_set};
 ghost use Rattle.vx_bits.specs.Place.{Place};
@@ -14,7 +14,8 @@ use vx_fields::sps::{
 };
 use vx_table::{Scope, read_table, read_value};
 
-/// The scope of a structure of sublayers: the highest one, and under a field's number whether each has an entry.
+/// Returns the scope of a structure of sublayers: the highest one, and under a field's number whether each has an
+/// entry.
 fn at_sublayers(mut scope: Scope, max: u32, field: u16, each: bool) -> Scope
     ensures { result ≡ sublayers scope max field each }
 {
@@ -23,11 +24,12 @@ fn at_sublayers(mut scope: Scope, max: u32, field: u16, each: bool) -> Scope
     scope
 }
 
-/// Reads the first three numbers of a VPS: fields 1 to 3.
+/// Reads the first three fields of a VPS, numbers 1 to 3 (clause 7.3.2.3).
 ///
 /// # Errors
 ///
-/// The first refusal, or want of memory.
+/// - `Refused` with the first refusal.
+/// - `Memory` if memory runs out.
 pub fn read_vps(alloc: Global, rbsp: &[u8]) -> Result<Fields, ReadError>
     requires { length rbsp.now ≤ unit_limit }
     ensures { ReadsValue vps rbsp.now result }
@@ -39,7 +41,10 @@ pub fn read_vps(alloc: Global, rbsp: &[u8]) -> Result<Fields, ReadError>
 ///
 /// # Errors
 ///
-/// The first refusal, or want of memory. `into` has then gained the fields read before.
+/// - `Refused` with the first refusal.
+/// - `Memory` if memory runs out.
+///
+/// After an error, `into` has gained the fields read before.
 pub fn read_vps_fields(rbsp: &[u8], into: &mut Fields) -> Result<(), ReadError>
     requires { length rbsp.now ≤ unit_limit }
     ensures { (new : Place) × Reads vps (at_front rbsp.now) into.old result new into.new }
@@ -49,11 +54,14 @@ pub fn read_vps_fields(rbsp: &[u8], into: &mut Fields) -> Result<(), ReadError>
     read_table(&VPS, &mut scope, &mut bits, into)
 }
 
-/// Reads profile, tier and level, fields 11 to 23; `max` is the highest sublayer, field 102.
+/// Reads profile, tier and level, fields 11 to 23 (clause 7.3.3.1); `max` is the highest sublayer, field 102.
 ///
 /// # Errors
 ///
-/// The first refusal, or want of memory. `into` has then gained the fields read before.
+/// - `Refused` with the first refusal.
+/// - `Memory` if memory runs out.
+///
+/// After an error, `into` has gained the fields read before.
 pub fn read_ptl(bits: &mut BitReader<'_>, max: u32, into: &mut Fields) -> Result<(), ReadError>
     requires { max ≤ 6 }
     ensures { Reads (ptl max) bits.old into.old result bits.new into.new }
@@ -63,7 +71,7 @@ pub fn read_ptl(bits: &mut BitReader<'_>, max: u32, into: &mut Fields) -> Result
     read_table(&PTL, &mut scope, bits, into)
 }
 
-/// Reads DPB parameters, fields 31 to 33; `each` is field 140.
+/// Reads DPB parameters, fields 31 to 33 (clause 7.3.4); `each` is field 140.
 ///
 /// # Errors
 ///
@@ -81,7 +89,7 @@ pub fn read_dpb(
     read_table(&DPB, &mut scope, bits, into)
 }
 
-/// Reads general timing and HRD parameters, fields 41 to 51, whose rows use neither `max` nor `each`.
+/// Reads general timing and HRD parameters, fields 41 to 51 (clause 7.3.5.1), whose rows use neither `max` nor `each`.
 ///
 /// # Errors
 ///
@@ -104,8 +112,9 @@ pub fn read_timing(
     read_table(&TIMING, &mut scope, bits, into)
 }
 
-/// Reads sublayer timing and HRD parameters, fields 52 to 60; `each` is field 225, and `into` has fields 43, 44, 46
-/// and 51 of the general ones.
+/// Reads sublayer timing and HRD parameters, fields 52 to 60 (clauses 7.3.5.2 and 7.3.5.3).
+///
+/// `each` is field 225, and `into` has fields 43, 44, 46 and 51 of the general ones.
 ///
 /// # Errors
 ///

@@ -1,4 +1,4 @@
-//! Writing items of the structures.
+//! Writing of items of the structures.
 
 ghost use Rattle.std.specs.Prelude.{◌≡◌, ◌↔◌, ◌+◌, ◌-◌, ◌≤◌, ◌++◌, length, take, drop, slice_set, All, IsTrue, OnOk, OnErr};
 ghost use Rattle.vx_ptl.specs.Spelling.{AppendsSpelling};
@@ -10,12 +10,12 @@ use std::alloc::AllocError;
 use vx_bits::{BitWriter, Fields, Item};
 use vx_table::{Coding, Formula, Row, Term, has_code, write_code};
 
-/// How a field of these structures is written, which its row tells whatever the scope.
+/// How a field of these structures is written, which its row determines at every scope.
 #[derive(Clone, Copy)]
 struct FieldCode {
     coding: Option<Coding<u32>>,
-    /// The zeros up to a byte boundary that stand last before it in its table, by the field that they are reported
-    /// under; 0 where none do.
+    /// The zeros up to a byte boundary that come last before it in its table, by the field as which they are reported;
+    /// 0 if there are none.
     zeros: u16,
 }
 
@@ -24,7 +24,7 @@ const NO_CODE: FieldCode = FieldCode {
     zeros: 0,
 };
 
-/// How a row codes its field whatever the scope.
+/// Returns how a row codes its field, if that is the same at every scope.
 fn fixed_coding(coding: Coding<Formula>) -> Option<Coding<u32>>
     ensures { result ≡ run.fixed_coding coding }
 {
@@ -36,7 +36,7 @@ fn fixed_coding(coding: Coding<Formula>) -> Option<Coding<u32>>
     }
 }
 
-/// The zeros that stand last before what comes behind a row.
+/// Returns the zeros that come last before what follows a row.
 fn zeros_over(before: u16, coding: Coding<Formula>, field: u16) -> u16
     ensures { result ≡ run.zeros_over before coding field }
 {
@@ -46,7 +46,7 @@ fn zeros_over(before: u16, coding: Coding<Formula>, field: u16) -> u16
     }
 }
 
-/// Notes how the fields of a table are written.
+/// Stores how the fields of a table are written.
 fn note_table(codes: &mut [FieldCode; 64], table: &[Row])
     ensures { codes.new ≡ codes_of 0 table.now codes.old }
 {
@@ -56,7 +56,7 @@ fn note_table(codes: &mut [FieldCode; 64], table: &[Row])
     }
 }
 
-/// Notes how a row's field is written, and gives the zeros that stand last before the next row.
+/// Stores how a row's field is written, and returns the zeros that come last before the next row.
 fn note_row(codes: &mut [FieldCode; 64], before: u16, row: Row) -> u16
     ensures codes { codes.new ≡ code_at before row codes.old }
     ensures zeros { result ≡ zeros_at before row }
@@ -70,7 +70,7 @@ fn note_row(codes: &mut [FieldCode; 64], before: u16, row: Row) -> u16
     zeros
 }
 
-/// Notes how a field is written.
+/// Stores how a field is written.
 #[tactic(auto, using(std::proofs::lemmas::List::set_past))]
 fn note(codes: &mut [FieldCode; 64], field: u16, code: FieldCode)
     ensures { codes.new ≡ slice_set codes.old field code }
@@ -81,7 +81,7 @@ fn note(codes: &mut [FieldCode; 64], field: u16, code: FieldCode)
     }
 }
 
-/// How each field of these structures is written, by its number.
+/// Returns how each field of these structures is written, by its number.
 fn field_codes() -> [FieldCode; 64]
     ensures { result ≡ run.field_codes }
 {
@@ -93,7 +93,7 @@ fn field_codes() -> [FieldCode; 64]
     codes
 }
 
-/// How a field is written.
+/// Returns how a field is written.
 #[tactic(auto, using(crate::proofs::Codes::codable))]
 fn code_of(codes: &[FieldCode; 64], field: u16) -> FieldCode
     requires { codes.now ≡ run.field_codes }
@@ -103,7 +103,7 @@ fn code_of(codes: &[FieldCode; 64], field: u16) -> FieldCode
     codes.get(usize::from(field)).copied().unwrap_or(NO_CODE)
 }
 
-/// Whether an item is of a field of these structures, and its value has a code.
+/// Returns whether an item is of a field of these structures, and its value has a code.
 #[tactic(auto, unfolding(crate::specs::Run::IsRunItem))]
 fn is_run_item(codes: &[FieldCode; 64], item: Item) -> bool
     requires { codes.now ≡ run.field_codes }
@@ -115,7 +115,7 @@ fn is_run_item(codes: &[FieldCode; 64], item: Item) -> bool
     }
 }
 
-/// Whether the items from one place up to another can be written by [`write_run`].
+/// Returns whether [`write_run`] can write the items from place `from` up to `to`.
 pub fn is_run(items: &Fields, from: usize, to: usize) -> bool
     requires order { from ≤ to }
     requires within { to ≤ length items.now }
@@ -130,7 +130,7 @@ pub fn is_run(items: &Fields, from: usize, to: usize) -> bool
     true
 }
 
-/// Writes an item behind an item of another field, with the zeros before it.
+/// Writes an item that follows an item of field `before`, with the zeros before it.
 #[tactic(auto, unfolding(crate::specs::Run::item_bits, crate::specs::Run::IsRunItem))]
 fn write_item(
     bits: &mut BitWriter,
@@ -152,7 +152,7 @@ fn write_item(
     Ok(())
 }
 
-/// Writes the zeros up to the byte boundary, where the item before is of a field that stands before them.
+/// Writes the zeros up to the byte boundary, if the item before is of a field that precedes them.
 fn write_gap(bits: &mut BitWriter, before: u16, zeros: u16) -> Result<(), AllocError>
     ensures ok { OnOk result (bits.new ≡ bits.old ++ zeros_behind before zeros (length bits.old)) }
     ensures err { OnErr result (bits.new ≡ bits.old) }
@@ -163,11 +163,14 @@ fn write_gap(bits: &mut BitWriter, before: u16, zeros: u16) -> Result<(), AllocE
     Ok(())
 }
 
-/// Writes the items of fields 11 to 60 from one place up to another, with their alignments.
+/// Writes the items of fields 11 to 60 from place `from` up to `to`, with their alignments.
+///
+/// Items of whole structures are written as their spellings. So items that were read are written as the bits from which
+/// they were read.
 ///
 /// # Errors
 ///
-/// Where memory runs out. The bits have then gained a front of the items' bits.
+/// `AllocError` if memory runs out. The bits have then gained a prefix of the items' bits.
 pub fn write_run(
     bits: &mut BitWriter,
     items: &Fields,

@@ -9,7 +9,7 @@ use vx_fields::timing::*;
 use vx_fields::vps::*;
 use vx_table::{Row, table};
 
-/// The front of a video parameter set, clause 7.3.2.3.
+/// The first fields of a video parameter set, clause 7.3.2.3.
 pub const VPS: [Row; 3] = table! {
     vps_video_parameter_set_id*: u(4);
     vps_max_layers_minus1*: u(6);
@@ -44,7 +44,8 @@ pub const PTL: [Row; 23] = table! {
     for TURN in ptl_num_sub_profiles { general_sub_profile_idc*: u(32); }
 };
 
-/// DPB parameters, clause 7.3.4: of each sublayer where `sps_sublayer_dpb_params_flag` is 1, else of the highest alone.
+/// DPB parameters, clause 7.3.4: for each sublayer if `sps_sublayer_dpb_params_flag` is 1, otherwise only for the
+/// highest.
 pub const DPB: [Row; 7] = table! {
     let LOWER = 0;
     if sps_sublayer_dpb_params_flag { let LOWER = sps_max_sublayers_minus1; }
@@ -72,7 +73,8 @@ pub const TIMING: [Row; 14] = table! {
     }
 };
 
-/// What sublayer timing sees of general timing that is absent: it stands before the two in a structure that may lack them.
+/// The values of general timing that sublayer timing uses if it is absent. Comes before the two in a structure that may
+/// lack them.
 pub const NO_TIMING: [Row; 4] = table! {
     default general_nal_hrd_params_present_flag = 0;
     default general_vcl_hrd_params_present_flag = 0;
@@ -80,8 +82,8 @@ pub const NO_TIMING: [Row; 4] = table! {
     default hrd_cpb_cnt_minus1 = 0;
 };
 
-/// Sublayer timing and HRD parameters, clauses 7.3.5.2 and 7.3.5.3: of each sublayer where
-/// `sps_sublayer_cpb_params_present_flag` is 1, else of the highest alone. Four fields of general timing are used.
+/// Sublayer timing and HRD parameters, clauses 7.3.5.2 and 7.3.5.3: for each sublayer if
+/// `sps_sublayer_cpb_params_present_flag` is 1, otherwise only for the highest. Four fields of general timing are used.
 pub const SUBLAYER_TIMING: [Row; 24] = table! {
     let LOWER = 0;
     if sps_sublayer_cpb_params_present_flag { let LOWER = sps_max_sublayers_minus1; }

@@ -1,26 +1,26 @@
-//! Reference picture lists: their entries, and the structures that an SPS holds.
+//! Entries of reference picture lists, and the list structures of an SPS.
 ghost use Rattle.std.specs.Prelude.{◌≡◌, ◌<◌, ◌≤◌, List, [], ◌∷◌, ◌++◌, length, Some, OnOk, OnErr, slice_get};
 
 use smallvec::SmallVec;
 use std::alloc::{AllocError, Global};
 use std::marker::Model;
 
-/// An entry of a reference picture list, as it names its picture (H.266 7.3.10 and 7.4.11).
+/// An entry of a reference picture list, which identifies its picture (H.266 7.3.10 and 7.4.11).
 #[derive(Clone, Copy, Debug, PartialEq, Eq)]
 pub enum RefEntry {
     /// A short-term reference picture: AbsDeltaPocSt, and the sign.
     Short {
-        /// The distance of its picture order count from the entry before it, or from the picture.
+        /// The distance of its picture order count from that of the entry before it, or of the picture.
         abs: u32,
         /// strp_entry_sign_flag.
         sign: bool,
     },
     /// A long-term reference picture: the least significant bits of its picture order count, and the difference of the
-    /// most significant ones where that is told.
+    /// most significant ones if that is signalled.
     Long {
         /// rpls_poc_lsb_lt or poc_lsb_lt.
         lsb: u32,
-        /// delta_poc_msb_cycle_lt, where it is present.
+        /// delta_poc_msb_cycle_lt, if it is present.
         msb: Option<u32>,
     },
 }
@@ -29,7 +29,7 @@ impl RefEntry {
     ghost use Rattle.std.specs.Prelude.{◌≡◌};
     ghost use Rattle.vx_rpl.specs.Lists.{is_long};
 
-    /// Whether it names a long-term reference picture.
+    /// Returns whether it is a long-term reference picture.
     pub fn is_long(&self) -> bool
         ensures { result ≡ is_long self.now }
     {
@@ -46,9 +46,9 @@ impl Default for RefEntry {
     }
 }
 
-/// A reference picture list, of at most 29 entries. It is seen as the list of these.
+/// A reference picture list of at most 29 entries.
 ///
-/// Up to four of them take no memory.
+/// Up to four of them take no memory. *Model:* the list of its entries.
 #[derive(Drop)]
 pub struct RefList {
     entries: SmallVec<RefEntry, 4>,
@@ -68,7 +68,7 @@ impl Model for RefList {
 impl RefList {
     ghost use Rattle.std.specs.Prelude.{◌≡◌, ◌<◌, ◌≤◌, List, [], ◌∷◌, ◌++◌, length, Some, OnOk, OnErr, slice_get};
 
-    /// An empty list. Takes no memory.
+    /// Returns an empty list. Takes no memory.
     pub fn new(alloc: Global) -> RefList
         ensures { result ≡ [] }
     {
@@ -77,11 +77,11 @@ impl RefList {
         }
     }
 
-    /// Appends an entry.
+    /// Appends an entry. The list must have fewer than 29.
     ///
     /// # Errors
     ///
-    /// Where memory runs out, and the list then stays as it was.
+    /// `AllocError` if memory runs out. The list is then unchanged.
     pub fn push(&mut self, entry: RefEntry) -> Result<(), AllocError>
         requires { length self.old < 29 }
         ensures ok { OnOk result (self.new ≡ self.old ++ entry ∷ []) }
@@ -91,7 +91,7 @@ impl RefList {
         Ok(())
     }
 
-    /// The number of entries, at most 29.
+    /// Returns the number of entries, at most 29.
     pub fn len(&self) -> usize
         ensures value { result ≡ length self.now }
         ensures most { result ≤ 29 }
@@ -99,7 +99,7 @@ impl RefList {
         self.entries.len()
     }
 
-    /// The entry at an index, counted from 0.
+    /// Returns the entry at index `i`, from 0.
     pub fn item(&self, i: usize) -> RefEntry
         requires { i < length self.now }
         ensures { slice_get self.now i ≡ Some result }
@@ -122,11 +122,13 @@ pub struct RefLists {
 pub struct Structure {
     /// Its entries.
     pub entries: RefList,
-    /// ltrp_in_header_flag: the least significant bits of its long-term entries stand in headers.
+    /// ltrp_in_header_flag: the least significant bits of its long-term entries are in headers.
     pub in_header: bool,
 }
 
-/// The structures of one list of an SPS, at most 64. It is seen as the list of these.
+/// The reference picture list structures of one list of an SPS, at most 64.
+///
+/// *Model:* the list of these structures.
 #[derive(Drop)]
 pub struct StructureList {
     structures: Vec<Structure>,
@@ -146,7 +148,7 @@ impl Model for StructureList {
 impl StructureList {
     ghost use Rattle.std.specs.Prelude.{◌≡◌, ◌<◌, ◌≤◌, List, [], ◌∷◌, ◌++◌, length, OnOk, OnErr, slice_get, option_copied};
 
-    /// No structures. Takes no memory.
+    /// Returns an empty list. Takes no memory.
     pub fn new(alloc: Global) -> StructureList
         ensures { result ≡ [] }
     {
@@ -155,11 +157,11 @@ impl StructureList {
         }
     }
 
-    /// Appends a structure.
+    /// Appends a structure. The list must have fewer than 64.
     ///
     /// # Errors
     ///
-    /// Where memory runs out, and the list then stays as it was.
+    /// `AllocError` if memory runs out. The list is then unchanged.
     pub fn push(&mut self, structure: Structure) -> Result<(), AllocError>
         requires { length self.old < 64 }
         ensures ok { OnOk result (self.new ≡ self.old ++ structure ∷ []) }
@@ -169,7 +171,7 @@ impl StructureList {
         Ok(())
     }
 
-    /// The number of structures, at most 64.
+    /// Returns the number of structures, at most 64.
     pub fn len(&self) -> usize
         ensures value { result ≡ length self.now }
         ensures most { result ≤ 64 }
@@ -177,7 +179,7 @@ impl StructureList {
         self.structures.len()
     }
 
-    /// The structure at an index, counted from 0, where there is one.
+    /// Returns the structure at index `i`, from 0, or `None` if there is none.
     pub fn get(&self, i: usize) -> Option<&Structure>
         ensures { option_copied result ≡ slice_get self.now i }
     {
@@ -188,8 +190,8 @@ impl StructureList {
 /// The reference picture list structures of an SPS, for list 0 and for list 1.
 #[derive(Drop)]
 pub struct RplTable {
-    /// Those of list 0.
+    /// The structures of list 0.
     pub first: StructureList,
-    /// Those of list 1, which are list 0's where rpl1_same_as_rpl0_flag is 1.
+    /// The structures of list 1, which are list 0's if rpl1_same_as_rpl0_flag is 1.
     pub second: StructureList,
 }

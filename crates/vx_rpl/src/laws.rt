@@ -1,19 +1,19 @@
-//! Laws of lists, structures and weights: functions that do nothing, each with a law as its contract.
+//! Laws of lists, structures and weights. A law is a function without a body whose contract states it.
 ghost use Rattle.vx_rpl.specs.Depends.{ListsDepend, StructureDepends, WeightsDepend, FieldsAreCodedOnce, ListsCarry, ListsShow, ListsKeep, ListsLeave, ListsFollowItems, TablesFollowItems};
 ghost use Rattle.vx_rpl.specs.laws.Lengths.{EntriesAreCounted};
 ghost use Rattle.vx_rpl.specs.Written.{StructuresWrittenAlike};
 
-/// Whatever structures the SPS has, lists read five numbers of the parameter sets.
+/// Lists depend on five numbers of the parameter sets, for any structures of the SPS.
 pub fn lists_depend()
     ensures { ListsDepend }
 {}
 
-/// A structure reads four numbers of the SPS, and which of how many it is.
+/// A structure depends on four numbers of the SPS, its index, and the number of structures.
 pub fn structure_depends()
     ensures { StructureDepends }
 {}
 
-/// Weights read whether there is chroma, two flags of the PPS, and how many entries the lists have.
+/// Weights depend on whether there is chroma, two flags of the PPS, and the numbers of entries of the lists.
 pub fn weights_depend()
     ensures { WeightsDepend }
 {}
@@ -23,35 +23,35 @@ pub fn fields_are_coded_once()
     ensures { FieldsAreCodedOnce }
 {}
 
-/// What is known goes along the lists where the test over their tables holds.
+/// If the test over their tables holds, then lists carry what is known.
 pub fn lists_carry()
     ensures { ListsCarry }
 {}
 
-/// All fields of the lists are shown, or kept exactly where they are shown, where each row passes the test; and names are
-/// left alone that no row gives a number.
+/// If each row passes the test, then all fields of the lists are shown, or kept exactly if they are shown; and names to
+/// which no row gives a number are left unchanged.
 pub fn lists_pass()
     ensures show { ListsShow }
     ensures keep { ListsKeep }
     ensures leave { ListsLeave }
 {}
 
-/// The items of their fields tell the lists, at scopes that agree on what lists read.
+/// If scopes agree on what lists depend on and the items of their fields are the same, then the lists are the same.
 pub fn lists_follow_items()
     ensures { ListsFollowItems }
 {}
 
-/// The items of structures and of their numbers tell the structures of an SPS.
+/// If the items of structures and of their numbers are the same, then the structures of an SPS are the same.
 pub fn tables_follow_items()
     ensures { TablesFollowItems }
 {}
 
-/// A structure's items are written as the structure, whatever its index and count were when it was read.
+/// If a structure is written, then its bits don't depend on the index and the count with which it was read.
 pub fn structures_written_alike()
     ensures { StructuresWrittenAlike }
 {}
 
-/// A structure's items come to as many entries as num_ref_entries says, and to as many long-term ones as a walk counts.
+/// If a structure is read, then it has as many entries as num_ref_entries, and as many long-term ones as a walk counts.
 pub fn entries_are_counted()
     ensures { EntriesAreCounted }
 {}

@@ -1,4 +1,4 @@
-//! What the items of a header come to: its two reference picture lists.
+//! The two reference picture lists that the items of a header determine.
 ghost use Rattle.std.specs.Prelude.{◌≡◌, filter, length, IfOk};
 ghost use Rattle.vx_rpl.specs.HeaderLists as spec;
 ghost use Rattle.vx_rpl.specs.HeaderLists.{lists_of};
@@ -20,19 +20,19 @@ use vx_table::Scope;
 /// Where the structure of a list is.
 #[derive(Clone, Copy)]
 struct Choice {
-    /// rpl_sps_flag: in the SPS.
+    /// rpl_sps_flag: it is in the SPS.
     from_sps: bool,
-    /// rpl_idx: which of its structures it is.
+    /// rpl_idx: its index among the structures of the SPS.
     index: u32,
 }
 
-/// Before list 0, which takes nothing over.
+/// The choice before list 0, which inherits nothing.
 const NO_CHOICE: Choice = Choice {
     from_sps: false,
     index: 0,
 };
 
-/// What follows the number that stands next, where it is one of this field.
+/// Returns the items after the next number, if that is one of this field.
 fn behind(field: u16, items: &[Item]) -> &[Item]
     ensures { result.now ≡ spec.behind_next field items.now }
 {
@@ -42,7 +42,7 @@ fn behind(field: u16, items: &[Item]) -> &[Item]
     }
 }
 
-/// Whether a list's structure is in the SPS, which has so many for it.
+/// Returns whether a list's structure is in the SPS, which has `count` for it.
 fn is_from_sps(is_spelled: bool, count: usize, taken: Choice, items: &[Item]) -> bool
     ensures { result ≡ spec.is_from_sps is_spelled count taken items.now }
 {
@@ -56,7 +56,7 @@ fn is_from_sps(is_spelled: bool, count: usize, taken: Choice, items: &[Item]) ->
     }
 }
 
-/// Which structure of the SPS it is, where it is one.
+/// Returns the index of the structure in the SPS, if it is there.
 fn index(is_spelled: bool, count: usize, taken: Choice, items: &[Item]) -> u32
     ensures { result ≡ spec.rpl_index is_spelled count taken items.now }
 {
@@ -70,7 +70,7 @@ fn index(is_spelled: bool, count: usize, taken: Choice, items: &[Item]) -> u32
     }
 }
 
-/// Where the structure of a list is, whose items come first.
+/// Returns where the structure of a list is, whose items come first.
 fn choose(is_spelled: bool, count: usize, taken: Choice, items: &[Item]) -> Choice
     ensures { result ≡ spec.choice_of is_spelled count taken items.now }
 {
@@ -80,14 +80,14 @@ fn choose(is_spelled: bool, count: usize, taken: Choice, items: &[Item]) -> Choi
     }
 }
 
-/// What follows that.
+/// Returns the items after that.
 fn behind_choice(items: &[Item]) -> &[Item]
     ensures { result.now ≡ spec.behind_choice items.now }
 {
     behind(rpl_idx, behind(rpl_sps_flag, items))
 }
 
-/// What follows the items of a structure.
+/// Returns the items after those of a structure.
 #[tactic(auto, using(crate::proofs::Told::behind_none))]
 fn behind_entries(items: &[Item]) -> &[Item]
     ensures { result.now ≡ spec.behind_entries items.now }
@@ -102,7 +102,7 @@ fn behind_entries(items: &[Item]) -> &[Item]
     left
 }
 
-/// What follows a list's own structure, where it has one.
+/// Returns the items after a list's own structure, if it has one.
 fn behind_own(choice: Choice, items: &[Item]) -> &[Item]
     ensures { result.now ≡ spec.behind_own choice items.now }
 {
@@ -113,7 +113,7 @@ fn behind_own(choice: Choice, items: &[Item]) -> &[Item]
     }
 }
 
-/// delta_poc_msb_cycle_lt, where it is present.
+/// Returns delta_poc_msb_cycle_lt, if it is present.
 fn cycle(items: &[Item]) -> Option<u32>
     ensures { result ≡ spec.cycle_of items.now }
 {
@@ -127,7 +127,7 @@ fn cycle(items: &[Item]) -> Option<u32>
     Some(cycle)
 }
 
-/// An entry with what the next items of the header tell of it.
+/// Returns an entry, completed from the next items of the header.
 fn entry_told(in_header: bool, entry: RefEntry, items: &[Item]) -> RefEntry
     ensures { result ≡ spec.entry_told in_header entry items.now }
 {
@@ -144,7 +144,7 @@ fn entry_told(in_header: bool, entry: RefEntry, items: &[Item]) -> RefEntry
     }
 }
 
-/// What follows these items.
+/// Returns the items after these.
 fn behind_entry(entry: RefEntry, items: &[Item]) -> &[Item]
     ensures { result.now ≡ spec.behind_entry entry items.now }
 {
@@ -157,7 +157,7 @@ fn behind_entry(entry: RefEntry, items: &[Item]) -> &[Item]
     }
 }
 
-/// The entries of a structure with what the next items of the header tell of them.
+/// Returns the entries of a structure, completed from the next items of the header.
 #[tactic(auto, using(crate::proofs::Told::told_more, crate::proofs::Told::told_end))]
 fn told(alloc: Global, structure: &Structure, items: &[Item]) -> Result<RefList, AllocError>
     ensures { IfOk result (λ list. list ≡ spec.told structure.now items.now) }
@@ -172,7 +172,7 @@ fn told(alloc: Global, structure: &Structure, items: &[Item]) -> Result<RefList,
     Ok(list)
 }
 
-/// What follows the items of a list's entries.
+/// Returns the items after those of a list's entries.
 #[tactic(auto, using(crate::proofs::Told::behind_more, crate::proofs::Told::behind_end))]
 fn behind_told<'a>(list: &RefList, items: &'a [Item]) -> &'a [Item]
     ensures { result.now ≡ spec.behind_told list.now items.now }
@@ -184,14 +184,14 @@ fn behind_told<'a>(list: &RefList, items: &'a [Item]) -> &'a [Item]
     left
 }
 
-/// What the sets in force say of lists.
+/// The flags of the sets in force that lists depend on.
 #[derive(Clone, Copy)]
 struct Kinds {
     weighted: bool,
     long_term: bool,
 }
 
-/// What the sets in force say.
+/// Returns the flags of the sets in force.
 fn kinds_at(scope: &Scope) -> Kinds
     ensures weighted { result.weighted ≡ spec.may_have_weights scope.now }
     ensures long_term { result.long_term ≡ spec.has_long_term scope.now }
@@ -203,7 +203,7 @@ fn kinds_at(scope: &Scope) -> Kinds
     }
 }
 
-/// A list that has its own structure.
+/// Returns a list that has its own structure.
 fn own_list(alloc: Global, kinds: Kinds, items: &[Item]) -> Result<RefList, AllocError>
     ensures { let spelled = spec.behind_next num_ref_entries items.now in IfOk result (λ list. list ≡ spec.told (spec.own_structure kinds.weighted kinds.long_term spelled) (spec.behind_entries spelled)) }
 {
@@ -215,7 +215,7 @@ fn own_list(alloc: Global, kinds: Kinds, items: &[Item]) -> Result<RefList, Allo
     told(alloc, &structure, behind_entries(spelled))
 }
 
-/// A list, whose items behind its choice come first.
+/// Returns a list whose items after its choice come first.
 #[tactic(auto, unfolding(crate::specs::HeaderLists::list_of))]
 fn list(
     alloc: Global,
@@ -235,21 +235,21 @@ fn list(
     }
 }
 
-/// What follows a list's items.
+/// Returns the items after those of a list.
 fn behind_list<'a>(choice: Choice, list: &RefList, items: &'a [Item]) -> &'a [Item]
     ensures { result.now ≡ spec.behind_list choice list.now items.now }
 {
     behind_told(list, behind_own(choice, items))
 }
 
-/// Whether an item is one of the lists of a header.
+/// Returns whether an item belongs to the lists of a header.
 fn is_of_lists(item: Item) -> bool
     ensures { result ≡ spec.is_of_lists item }
 {
     num_ref_entries <= item.field && item.field <= delta_poc_msb_cycle_lt
 }
 
-/// The items of the lists of a header.
+/// Returns the items of the lists of a header.
 fn items_of_lists(alloc: Global, items: &[Item]) -> Result<Vec<Item>, AllocError>
     ensures { IfOk result (λ own. own.items ≡ filter spec.is_of_lists items.now) }
 {
@@ -260,7 +260,7 @@ fn items_of_lists(alloc: Global, items: &[Item]) -> Result<Vec<Item>, AllocError
         .collect(alloc)
 }
 
-/// The two lists that items of lists alone come to.
+/// Returns the two lists that items of lists determine.
 #[tactic(auto, unfolding(crate::specs::HeaderLists::list_0, crate::specs::HeaderLists::behind_list_0, crate::specs::HeaderLists::list_1))]
 fn lists(
     alloc: Global,
@@ -279,11 +279,16 @@ fn lists(
     Ok(RefLists { first, second })
 }
 
-/// The two reference picture lists of a header, which its items come to at the sets in force: of all its items those of
-/// lists, clause 7.4.10. Both are empty where it has none.
+/// Returns the two reference picture lists of a header, from its items and the sets in force (clause 7.4.10).
 ///
-/// Of the scope it reads sps_long_term_ref_pics_flag, sps_weighted_pred_flag, sps_weighted_bipred_flag and
+/// `items` may be all items of the header; only those of lists are used. Both lists are empty if it has none. They have
+/// AbsDeltaPocSt and the sign of each short-term entry, and the low bits and the cycle of each long-term one. From
+/// `scope` it reads sps_long_term_ref_pics_flag, sps_weighted_pred_flag, sps_weighted_bipred_flag and
 /// pps_rpl1_idx_present_flag.
+///
+/// # Errors
+///
+/// `AllocError` if memory runs out.
 #[tactic(auto, unfolding(crate::specs::HeaderLists::lists_of))]
 pub fn resolve_lists(
     alloc: Global,

@@ -1,4 +1,4 @@
-//! What lists and weights take from parameter sets and headers.
+//! The numbers of parameter sets and headers that lists and weights depend on.
 ghost use Rattle.std.specs.Prelude.{◌≡◌, ◌≤◌};
 ghost use Rattle.vx_rpl.specs.Numbers.{lists_scope, structure_scope, weights_scope};
 
@@ -10,21 +10,21 @@ use vx_fields::sps::{
 };
 use vx_table::Scope;
 
-/// What reference picture lists read of the parameter sets.
+/// The numbers of the parameter sets that reference picture lists depend on.
 #[derive(Clone, Copy, Debug)]
 pub struct RplNumbers {
     /// sps_long_term_ref_pics_flag.
     pub long_term: bool,
     /// Whether slices may have weights: sps_weighted_pred_flag or sps_weighted_bipred_flag.
     pub weighted: bool,
-    /// The bits of ph_pic_order_cnt_lsb, from 4 to 16.
+    /// The number of bits of ph_pic_order_cnt_lsb, from 4 to 16.
     pub lsb_bits: u32,
     /// pps_rpl1_idx_present_flag.
     pub rpl1_idx_present: bool,
 }
 
 impl RplNumbers {
-    /// The scope that has these numbers.
+    /// Returns the scope that has these numbers.
     #[tactic(auto, unfolding(crate::specs::Numbers::lists_scope))]
     pub fn scope(&self) -> Scope
         requires { (4 ≤ self.now.lsb_bits) × (self.now.lsb_bits ≤ 16) }
@@ -38,7 +38,7 @@ impl RplNumbers {
         scope
     }
 
-    /// The scope of structure `index` of the SPS's `count`, or where these are equal of one in a header.
+    /// Returns the scope of structure `index` of the SPS's `count`, or of one in a header if the two are equal.
     #[tactic(auto, unfolding(crate::specs::Numbers::structure_scope))]
     pub fn structure_scope(&self, index: u32, count: u32) -> Scope
         requires { (4 ≤ self.now.lsb_bits) × (self.now.lsb_bits ≤ 16) }
@@ -51,23 +51,23 @@ impl RplNumbers {
     }
 }
 
-/// What prediction weights read of parameter sets and headers.
+/// The numbers of parameter sets and headers that prediction weights depend on.
 #[derive(Clone, Copy, Debug)]
 pub struct WeightNumbers {
     /// Whether there is chroma: sps_chroma_format_idc isn't 0.
     pub chroma: bool,
-    /// pps_wp_info_in_ph_flag: the weights stand in a picture header.
+    /// pps_wp_info_in_ph_flag: the weights are in a picture header.
     pub in_header: bool,
     /// pps_weighted_bipred_flag.
     pub bipred: bool,
-    /// How many entries list 0 and list 1 have.
+    /// The numbers of entries of list 0 and list 1.
     pub entries: [u32; 2],
     /// NumRefIdxActive[ 0 ] and NumRefIdxActive[ 1 ].
     pub active: [u32; 2],
 }
 
 impl WeightNumbers {
-    /// The scope that has these numbers.
+    /// Returns the scope that has these numbers.
     #[tactic(auto, unfolding(crate::specs::Numbers::weights_scope))]
     pub fn scope(&self) -> Scope
         ensures { result ≡ weights_scope self.now }

@@ -1,4 +1,4 @@
-//! Reading a structure, the lists of a header and weights, and the structures of an SPS from its items.
+//! Reading of a structure, the lists of a header and weights; and the structures of an SPS from its items.
 ghost use Rattle.std.specs.Prelude.{◌≡◌, ◌≤◌, length, drop, IfOk, OnOk, slice_range};
 ghost use Rattle.vx_table.specs.Forms.{form_of};
 ghost use Rattle.vx_table.specs.Reading.{Reads};
@@ -18,12 +18,16 @@ use std::alloc::{AllocError, Global};
 use vx_bits::{BitReader, Fields, ReadError};
 use vx_table::{Scope, parts, read_parts, read_table};
 
-/// Reads a reference picture list structure, `ref_pic_list_struct()`, clause 7.3.10: number `index` of the SPS's `count`,
-/// or where these are equal one of a header.
+/// Reads a reference picture list structure, `ref_pic_list_struct()` (clause 7.3.10).
+///
+/// It is number `index` of the SPS's `count`, or one of a header if the two are equal.
 ///
 /// # Errors
 ///
-/// The first refusal, or want of memory. `into` has then gained the fields read before.
+/// - `Refused` with the first refusal.
+/// - `Memory` if memory runs out.
+///
+/// After an error, `into` has gained the fields read before.
 pub fn read_struct(
     bits: &mut BitReader<'_>,
     numbers: &RplNumbers,
@@ -56,11 +60,11 @@ fn read_items(
     code_lists(table, &mut scope, bits, into)
 }
 
-/// Reads the two lists of a header, `ref_pic_lists()`, clause 7.3.9, and gives their entries, clause 7.4.10.
+/// Reads the two lists of a header, `ref_pic_lists()` (clause 7.3.9), and returns their entries (clause 7.4.10).
 ///
 /// # Errors
 ///
-/// As [`read_struct`]; an index that list 1 takes over and that leads past its structures is refused at rpl_idx.
+/// As [`read_struct`]. An index that list 1 inherits and that is past its structures is refused at rpl_idx.
 pub fn read_lists(
     alloc: Global,
     bits: &mut BitReader<'_>,
@@ -79,7 +83,7 @@ pub fn read_lists(
     Ok(lists)
 }
 
-/// Reads prediction weights, `pred_weight_table()`, clause 7.3.8.
+/// Reads prediction weights, `pred_weight_table()` (clause 7.3.8).
 ///
 /// # Errors
 ///
@@ -101,8 +105,13 @@ pub fn read_weights(
 }
 
 impl RplTable {
-    /// The structures that an SPS's items from one place up to another spell: those from sps_rpl1_same_as_rpl0_flag to
-    /// the last structure.
+    /// Returns the structures of an SPS, from its items from place `from` up to `to`.
+    ///
+    /// The items are those from sps_rpl1_same_as_rpl0_flag to the last structure; others among them are skipped.
+    ///
+    /// # Errors
+    ///
+    /// `AllocError` if memory runs out.
     pub fn new(
         alloc: Global,
         numbers: &RplNumbers,

@@ -1,4 +1,4 @@
-//! What the items of lists come to: their entries.
+//! The entries that the items of list structures determine.
 ghost use Rattle.std.specs.Prelude.{◌≡◌, ◌≤◌, length, take, drop, filter, IfOk, option_copied};
 ghost use Rattle.vx_fields.specs.declared.sps.TheConstants.{sps_num_ref_pic_lists};
 ghost use Rattle.vx_rpl.specs.Resolved as spec;
@@ -13,7 +13,7 @@ use vx_fields::rpl::{
 use vx_fields::sps::sps_num_ref_pic_lists;
 use vx_table::natural;
 
-/// The number that stands next, where it is one of this field; else 0.
+/// Returns the next number if it is one of this field, and otherwise 0.
 pub(crate) fn next_number(field: u16, items: &[Item]) -> u32
     ensures { result ≡ spec.next_number field items.now }
 {
@@ -23,7 +23,7 @@ pub(crate) fn next_number(field: u16, items: &[Item]) -> u32
     }
 }
 
-/// AbsDeltaPocSt of entry `i`, clause 7.4.11.
+/// Returns AbsDeltaPocSt of entry `i` (clause 7.4.11).
 fn abs_delta(weighted: bool, i: usize, value: u32) -> u32
     ensures { result ≡ spec.abs_delta weighted i value }
 {
@@ -34,21 +34,21 @@ fn abs_delta(weighted: bool, i: usize, value: u32) -> u32
     }
 }
 
-/// Whether an entry begins with this item.
+/// Returns whether an entry begins with this item.
 fn begins_entry(item: Item) -> bool
     ensures { result ≡ spec.begins_entry item }
 {
     item.field == abs_delta_poc_st || (item.field == st_ref_pic_flag && natural(item.value) == 0)
 }
 
-/// Whether this item is one of a structure, behind its number of entries.
+/// Returns whether an item belongs to a structure, after its number of entries.
 pub(crate) fn is_of_structure(item: Item) -> bool
     ensures { result ≡ spec.is_of_structure item }
 {
     ltrp_in_header_flag <= item.field && item.field <= rpls_poc_lsb_lt
 }
 
-/// The entry that begins with an item.
+/// Returns the entry that begins with an item.
 fn entry_of(weighted: bool, i: usize, item: Item, rest: &[Item]) -> RefEntry
     ensures { result ≡ spec.entry_of weighted i item rest.now }
 {
@@ -65,7 +65,7 @@ fn entry_of(weighted: bool, i: usize, item: Item, rest: &[Item]) -> RefEntry
     }
 }
 
-/// The entries of a structure whose items behind its number of entries come first.
+/// Returns the entries of a structure whose items after its number of entries come first.
 #[tactic(auto, using(crate::proofs::Entries::entries_stop, crate::proofs::Entries::entries_pushed, crate::proofs::Entries::entries_passed))]
 pub(crate) fn entries(alloc: Global, weighted: bool, items: &[Item]) -> Result<RefList, AllocError>
     ensures { IfOk result (λ list. list ≡ take 29 (spec.entries_from weighted 0 items.now)) }
@@ -87,7 +87,7 @@ pub(crate) fn entries(alloc: Global, weighted: bool, items: &[Item]) -> Result<R
     Ok(list)
 }
 
-/// The items behind the first one of a field, where there is one.
+/// Returns the items after the first one of a field, if there is one.
 fn past(field: u16, items: &[Item]) -> Option<&[Item]>
     ensures { option_copied result ≡ spec.past field items.now }
 {
@@ -101,7 +101,7 @@ fn past(field: u16, items: &[Item]) -> Option<&[Item]>
     None
 }
 
-/// The structure whose items behind its number of entries come first.
+/// Returns the structure whose items after its number of entries come first.
 fn structure(alloc: Global, weighted: bool, items: &[Item]) -> Result<Structure, AllocError>
     ensures { IfOk result (λ structure. structure ≡ spec.structure_of weighted items.now) }
 {
@@ -112,7 +112,7 @@ fn structure(alloc: Global, weighted: bool, items: &[Item]) -> Result<Structure,
     })
 }
 
-/// The structures up to the next number of structures.
+/// Returns the structures up to the next number of structures.
 fn structures(alloc: Global, weighted: bool, items: &[Item]) -> Result<StructureList, AllocError>
     ensures { IfOk result (λ list. list ≡ take 64 (spec.structures_from weighted items.now)) }
 {
@@ -133,7 +133,7 @@ fn structures(alloc: Global, weighted: bool, items: &[Item]) -> Result<Structure
     Ok(list)
 }
 
-/// Whether an item is one of the structures of an SPS, or of their number.
+/// Returns whether an item belongs to the structures of an SPS, or is their number.
 fn is_of_table(item: Item) -> bool
     ensures { result ≡ spec.is_of_table item }
 {
@@ -141,7 +141,7 @@ fn is_of_table(item: Item) -> bool
         || (num_ref_entries <= item.field && item.field <= rpls_poc_lsb_lt)
 }
 
-/// These items.
+/// Returns the items of the structures of an SPS.
 fn items_of_table(alloc: Global, items: &[Item]) -> Result<Vec<Item>, AllocError>
     ensures { IfOk result (λ own. own.items ≡ filter spec.is_of_table items.now) }
 {
@@ -152,7 +152,7 @@ fn items_of_table(alloc: Global, items: &[Item]) -> Result<Vec<Item>, AllocError
         .collect(alloc)
 }
 
-/// The structures of an SPS, for each list, which its items spell.
+/// Returns the structures of an SPS, for each list, that its items determine.
 #[tactic(auto, unfolding(crate::specs::Resolved::table_of))]
 pub(crate) fn table(alloc: Global, weighted: bool, items: &[Item]) -> Result<RplTable, AllocError>
     ensures { IfOk result (λ table. table ≡ spec.table_of weighted items.now) }
@@ -161,7 +161,7 @@ pub(crate) fn table(alloc: Global, weighted: bool, items: &[Item]) -> Result<Rpl
     both(alloc, weighted, &own)
 }
 
-/// The structures that items of them alone spell.
+/// Returns the structures that items of structures determine.
 fn both(alloc: Global, weighted: bool, items: &[Item]) -> Result<RplTable, AllocError>
     ensures { IfOk result (λ table. table ≡ spec.both_of weighted items.now) }
 {
@@ -170,7 +170,7 @@ fn both(alloc: Global, weighted: bool, items: &[Item]) -> Result<RplTable, Alloc
     Ok(RplTable { first, second })
 }
 
-/// The structures of list 0.
+/// Returns the structures of list 0.
 fn first_structures(
     alloc: Global,
     weighted: bool,
@@ -184,7 +184,7 @@ fn first_structures(
     }
 }
 
-/// The structures of list 1, which are list 0's where it has no number of its own.
+/// Returns the structures of list 1, which are list 0's if it has no number of its own.
 fn second_structures(
     alloc: Global,
     weighted: bool,
@@ -198,7 +198,7 @@ fn second_structures(
     }
 }
 
-/// The items behind the second number of structures, where there is one.
+/// Returns the items after the second number of structures, if there is one.
 fn behind_second(items: &[Item]) -> Option<&[Item]>
     ensures { option_copied result ≡ spec.behind_second (spec.past sps_num_ref_pic_lists items.now) }
 {

@@ -1,7 +1,7 @@
 //! The tables of H.266 clauses 7.3.9 (reference picture lists), 7.3.10 (their structures) and 7.3.8 (weights).
 //!
-//! Tables that are walked over by type have their text in a macro: `table!` makes the array of it, which is what definitions name,
-//! and `rows!` the rows by type.
+//! Tables that are walked over as types have their text in a macro. `table!` makes the array of it, which definitions
+//! name, and `rows!` the rows as a type.
 use vx_bits::rules::TOO_MANY_ENTRIES;
 use vx_fields::names::rpl::*;
 use vx_fields::pps::{pps_rpl1_idx_present_flag, pps_weighted_bipred_flag, pps_wp_info_in_ph_flag};
@@ -19,7 +19,7 @@ macro_rules! before_list_0_syntax {
         default rpl_idx = 0;
     } };
 }
-/// Before list 0 of a header, which takes nothing over.
+/// Before list 0 of a header, which inherits nothing.
 pub const BEFORE_LIST_0: [Row; 2] = before_list_0_syntax!(table);
 
 macro_rules! choice_syntax {
@@ -41,9 +41,9 @@ macro_rules! choice_syntax {
         }
     } };
 }
-/// Where the structure of a header's list is, clause 7.3.9: in the SPS, which one of it, or in the header.
+/// Where the structure of a header's list is, clause 7.3.9: in the SPS, with its index, or in the header.
 ///
-/// Where list 1 spells neither, it takes over what list 0 has.
+/// If list 1 codes neither, it inherits both from list 0.
 pub const CHOICE: [Row; 19] = choice_syntax!(table);
 
 macro_rules! ref_pic_list_struct_syntax {
@@ -72,8 +72,8 @@ macro_rules! ref_pic_list_struct_syntax {
         }
     } };
 }
-/// A reference picture list structure, clause 7.3.10: the one of number `STRUCTURE` of the SPS's `NUM_STRUCTURES`, or
-/// where these are equal that of a header.
+/// A reference picture list structure, clause 7.3.10: number `STRUCTURE` of the SPS's `NUM_STRUCTURES`, or that of a
+/// header if the two are equal.
 pub const REF_PIC_LIST_STRUCT: [Row; 24] = ref_pic_list_struct_syntax!(table);
 
 macro_rules! long_term_syntax {
@@ -85,7 +85,7 @@ macro_rules! long_term_syntax {
         }
     } };
 }
-/// What a header tells of each long-term entry of a list, clause 7.3.9.
+/// The fields of a header for each long-term entry of a list, clause 7.3.9.
 pub const LONG_TERM: [Row; 6] = long_term_syntax!(table);
 
 macro_rules! behind_list_0_syntax {
@@ -93,7 +93,7 @@ macro_rules! behind_list_0_syntax {
         let ENTRIES_0 = num_ref_entries;
     } };
 }
-/// Behind list 0.
+/// After list 0.
 pub const BEHIND_LIST_0: [Row; 1] = behind_list_0_syntax!(table);
 
 macro_rules! behind_list_1_syntax {
@@ -101,10 +101,10 @@ macro_rules! behind_list_1_syntax {
         let ENTRIES_1 = num_ref_entries;
     } };
 }
-/// Behind list 1.
+/// After list 1.
 pub const BEHIND_LIST_1: [Row; 1] = behind_list_1_syntax!(table);
 
-/// The front of prediction weights, clause 7.3.8.
+/// The first fields of prediction weights, clause 7.3.8.
 pub const WEIGHTS_0: [Row; 8] = table! {
     luma_log2_weight_denom: ue in 0..=7;
     if sps_chroma_format_idc { delta_chroma_log2_weight_denom: se; }
@@ -116,7 +116,7 @@ pub const WEIGHTS_0: [Row; 8] = table! {
     }
 };
 
-/// The weights of a list, clause 7.3.8: all luma flags, all chroma flags, and then what each weight has.
+/// The weights of a list, clause 7.3.8: all luma flags, all chroma flags, and then the fields of each weight.
 pub const WEIGHTS: [Row; 26] = table! {
     let LUMA_FLAGS = 0;
     let CHROMA_FLAGS = 0;
@@ -153,7 +153,7 @@ pub const WEIGHTS: [Row; 26] = table! {
     }
 };
 
-/// Between the weights of list 0 and those of list 1, clause 7.3.8: how many the latter are.
+/// Between the weights of list 0 and those of list 1, clause 7.3.8: the number of the latter.
 pub const WEIGHTS_1: [Row; 10] = table! {
     let NUM_WEIGHTS = ACTIVE_1;
     let MOST_WEIGHTS = (ENTRIES_1 min 15);

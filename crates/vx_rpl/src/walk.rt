@@ -17,7 +17,7 @@ use vx_fields::sps::*;
 use vx_table::by_type::ALWAYS;
 use vx_table::{Coder, Rows, Scope, code_parts, code_section, formula, parts, rows};
 
-/// Tells the scope which list comes, and how many structures the SPS has for it.
+/// Sets in the scope which list comes, and how many structures the SPS has for it.
 #[tactic(auto, unfolding(crate::specs::Lists::begun))]
 fn begin(is_list_0: bool, structures: &StructureList, scope: &mut Scope)
     ensures { scope.new ≡ begun is_list_0 structures.now scope.old }
@@ -26,7 +26,7 @@ fn begin(is_list_0: bool, structures: &StructureList, scope: &mut Scope)
     scope.set(NUM_STRUCTURES, structures.len() as u32);
 }
 
-/// How many entries are long-term ones.
+/// Returns the number of long-term entries.
 #[tactic(auto, using(crate::proofs::Counted::count_more))]
 fn long_entries(list: &RefList) -> u32
     ensures { result ≡ count_by is_long list.now }
@@ -38,7 +38,7 @@ fn long_entries(list: &RefList) -> u32
     count
 }
 
-/// Gives the scope what it would have behind a structure.
+/// Sets the numbers that the scope would have after a structure.
 fn take_structure(structure: &Structure, scope: &mut Scope)
     ensures { scope.new ≡ behind_structure (Some structure.now) scope.old }
 {
@@ -47,7 +47,7 @@ fn take_structure(structure: &Structure, scope: &mut Scope)
     scope.set(LONG_ENTRIES, long_entries(&structure.entries));
 }
 
-/// Takes the structure of the SPS that the list names, where it names one.
+/// Takes over the structure of the SPS that the list names, if it names one.
 #[tactic(auto, unfolding(crate::specs::Lists::picked))]
 fn pick(structures: &StructureList, scope: &mut Scope)
     ensures { scope.new ≡ picked structures.now scope.old }
@@ -75,7 +75,7 @@ fn code_choice<I, C: Coder<I>>(
     choice.code(scope, coder, items)
 }
 
-/// Codes the structure of a list, where it is the list's own, and what the header tells of the long-term entries.
+/// Codes the structure of a list, if it is the list's own, and the header's fields for the long-term entries.
 fn code_structure<I, C: Coder<I>>(
     scope: &mut Scope,
     coder: &mut C,
@@ -94,7 +94,7 @@ fn code_structure<I, C: Coder<I>>(
     Ok(())
 }
 
-/// Codes the structure of a list that has its own, and what the header tells of the long-term entries.
+/// Codes the structure of a list that has its own, and the header's fields for the long-term entries.
 fn code_chosen<I, C: Coder<I>>(
     structures: &StructureList,
     scope: &mut Scope,
@@ -107,7 +107,7 @@ fn code_chosen<I, C: Coder<I>>(
     code_structure(scope, coder, items)
 }
 
-/// Codes a list of a header, clause 7.3.9.
+/// Codes a list of a header (clause 7.3.9).
 #[tactic(auto, unfolding(crate::specs::Lists::list_form), using(vx_table::proofs::Steps::then, vx_table::proofs::Steps::stop))]
 fn code_list<I, C: Coder<I>>(
     is_list_0: bool,
@@ -122,11 +122,11 @@ fn code_list<I, C: Coder<I>>(
     code_chosen(structures, scope, coder, items)
 }
 
-/// Codes list 0 of a header.
+/// Codes list 0 of a header (clause 7.3.9).
 ///
 /// # Errors
 ///
-/// The coder's, at the first field that it refuses.
+/// The coder's error at the first field that it refuses.
 #[tactic(auto, unfolding(crate::specs::Lists::first_form), using(vx_table::proofs::Steps::then, vx_table::proofs::Steps::stop))]
 pub fn code_first<I, C: Coder<I>>(
     structures: &StructureList,
@@ -143,11 +143,11 @@ pub fn code_first<I, C: Coder<I>>(
     behind.code(scope, coder, items)
 }
 
-/// Codes list 1 of a header, behind list 0.
+/// Codes list 1 of a header, after list 0 (clause 7.3.9).
 ///
 /// # Errors
 ///
-/// The coder's, at the first field that it refuses.
+/// The coder's error at the first field that it refuses.
 #[tactic(auto, unfolding(crate::specs::Lists::second_form), using(vx_table::proofs::Steps::then, vx_table::proofs::Steps::stop))]
 pub fn code_second<I, C: Coder<I>>(
     structures: &StructureList,
@@ -162,11 +162,11 @@ pub fn code_second<I, C: Coder<I>>(
     behind.code(scope, coder, items)
 }
 
-/// Codes the two lists of a header, `ref_pic_lists()`, clause 7.3.9.
+/// Codes the two lists of a header, `ref_pic_lists()` (clause 7.3.9).
 ///
 /// # Errors
 ///
-/// The coder's, at the first field that it refuses.
+/// The coder's error at the first field that it refuses.
 #[tactic(auto, unfolding(crate::specs::Lists::lists_form), using(vx_table::proofs::Steps::then, vx_table::proofs::Steps::stop))]
 pub fn code_lists<I, C: Coder<I>>(
     table: &RplTable,
@@ -180,11 +180,11 @@ pub fn code_lists<I, C: Coder<I>>(
     code_second(&table.second, scope, coder, items)
 }
 
-/// Codes prediction weights, `pred_weight_table()`, clause 7.3.8.
+/// Codes prediction weights, `pred_weight_table()` (clause 7.3.8).
 ///
 /// # Errors
 ///
-/// The coder's, at the first field that it refuses.
+/// The coder's error at the first field that it refuses.
 pub fn code_weights<I, C: Coder<I>>(
     scope: &mut Scope,
     coder: &mut C,

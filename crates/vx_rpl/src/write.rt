@@ -1,4 +1,4 @@
-//! Writing a structure, the lists of a header and weights.
+//! Writing of a structure, the lists of a header and weights.
 ghost use Rattle.std.specs.Prelude.{◌≡◌, ◌≤◌, length, slice_range};
 ghost use Rattle.vx_table.specs.Forms.{form_of};
 ghost use Rattle.vx_rpl.specs.declared.tables.TheConstants.{REF_PIC_LIST_STRUCT};
@@ -15,11 +15,11 @@ use vx_bits::{BitWriter, Fields, Item};
 use vx_fields::rpl::ltrp_in_header_flag;
 use vx_table::{Scope, SpellError, Unwritten, code_table};
 
-/// What comes of what was written where these items are left: they are then those of no value.
+/// Returns the result of writing, if these items are left: they are then those of no value.
 ///
 /// # Errors
 ///
-/// The writer's; `NoValue` where an item is left.
+/// The writer's error; `NoValue` if an item is left.
 fn all_taken(written: Result<(), SpellError>, left: &Unwritten<'_>) -> Result<(), SpellError>
     ensures { result ≡ spec.all_taken written left.now }
 {
@@ -31,7 +31,7 @@ fn all_taken(written: Result<(), SpellError>, left: &Unwritten<'_>) -> Result<()
     }
 }
 
-/// Whether the second item is of this field.
+/// Returns whether the second item is of this field.
 fn is_second(field: u16, items: &[Item]) -> bool
     ensures { result ≡ spec.is_second field items.now }
 {
@@ -41,7 +41,7 @@ fn is_second(field: u16, items: &[Item]) -> bool
     }
 }
 
-/// The scope at which the structure of these items is written.
+/// Returns the scope at which the structure of these items is written.
 fn own_scope(numbers: &RplNumbers, items: &[Item]) -> Scope
     requires { (4 ≤ numbers.now.lsb_bits) × (numbers.now.lsb_bits ≤ 16) }
     ensures { result ≡ spec.own_scope numbers.now items.now }
@@ -50,12 +50,17 @@ fn own_scope(numbers: &RplNumbers, items: &[Item]) -> Scope
     numbers.structure_scope(0, u32::from(in_sps))
 }
 
-/// Writes the reference picture list structure of these items, `ref_pic_list_struct()`, clause 7.3.10. With an
-/// ltrp_in_header_flag it is one of an SPS; without one it is spelled alike there and in a header.
+/// Writes a reference picture list structure, `ref_pic_list_struct()` (clause 7.3.10), of the items from place `from`
+/// up to `to`.
+///
+/// With an ltrp_in_header_flag it is one of an SPS; without one its bits are the same in an SPS and in a header.
 ///
 /// # Errors
 ///
-/// `NoValue` where the items aren't those of a structure; want of memory. `bits` may then have gained some.
+/// - `NoValue` if the items aren't those of a structure.
+/// - `Memory` if memory runs out.
+///
+/// After an error, `bits` may have gained some bits.
 pub fn write_struct(
     bits: &mut BitWriter,
     items: &Fields,
@@ -74,11 +79,14 @@ pub fn write_struct(
     all_taken(written, &left)
 }
 
-/// Writes the two lists of a header of these items, `ref_pic_lists()`, clause 7.3.9.
+/// Writes the two lists of a header, `ref_pic_lists()` (clause 7.3.9), of the items from place `from` up to `to`.
 ///
 /// # Errors
 ///
-/// `NoValue` where the items aren't those of lists; want of memory. `bits` may then have gained some.
+/// - `NoValue` if the items aren't those of lists.
+/// - `Memory` if memory runs out.
+///
+/// After an error, `bits` may have gained some bits.
 pub fn write_lists(
     bits: &mut BitWriter,
     items: &Fields,
@@ -98,11 +106,14 @@ pub fn write_lists(
     all_taken(written, &left)
 }
 
-/// Writes the prediction weights of these items, `pred_weight_table()`, clause 7.3.8.
+/// Writes prediction weights, `pred_weight_table()` (clause 7.3.8), of the items from place `from` up to `to`.
 ///
 /// # Errors
 ///
-/// `NoValue` where the items aren't those of weights; want of memory. `bits` may then have gained some.
+/// - `NoValue` if the items aren't those of weights.
+/// - `Memory` if memory runs out.
+///
+/// After an error, `bits` may have gained some bits.
 pub fn write_weights(
     bits: &mut BitWriter,
     items: &Fields,

@@ -1,22 +1,22 @@
-//! Laws of SEI RBSPs: functions that do nothing, each with a law as its contract.
+//! Laws of SEI RBSPs. A law is a function without a body whose contract states it.
 ghost use Rattle.vx_sei.specs.laws.Messages.{SeiIsUnique, WrittenIsRead, SeiEndsIn80, CarriedIsShorter};
 
-/// An RBSP is that of one list of messages at most.
+/// If bytes are the SEI RBSP of messages, then they are that of no other messages.
 pub fn sei_is_unique()
     ensures { SeiIsUnique }
 {}
 
-/// The RBSP of messages that are carried is read as these messages.
+/// If messages have types that are copied, then their RBSP is read as these messages.
 pub fn written_is_read()
     ensures { WrittenIsRead }
 {}
 
-/// The last byte of an SEI RBSP is 80, so that it never ends in 00 (H.266 7.4.2.1).
+/// If bytes are an SEI RBSP, then the last byte is 80, so they never end in 00 (H.266 7.4.2.1).
 pub fn sei_ends_in_80()
     ensures { SeiEndsIn80 }
 {}
 
-/// The carried messages of an RBSP have no more bytes, as they are spelled, than the RBSP.
+/// If messages of an RBSP are copied, then their coded form has no more bytes than the RBSP.
 pub fn carried_is_shorter()
     ensures { CarriedIsShorter }
 {}

@@ -1,4 +1,4 @@
-//! SEI messages, and those that are carried.
+//! SEI messages, and the types that are copied to the output.
 ghost use Rattle.std.specs.Prelude.{◌≡◌, length};
 ghost use Rattle.vx_sei.specs.Sei.{sei_message};
 
@@ -14,7 +14,7 @@ pub const ALTERNATIVE_TRANSFER_CHARACTERISTICS: u32 = 147;
 /// The byte that ends an SEI RBSP: rbsp_trailing_bits( ) at a byte boundary.
 pub(crate) const TRAILING: u8 = 0x80;
 
-/// An SEI message.
+/// An SEI message: its type and its payload.
 #[derive(Drop)]
 pub struct Message {
     /// payloadType
@@ -23,11 +23,11 @@ pub struct Message {
     pub bytes: Bytes,
 }
 
-/// SEI messages, in order.
+/// A list of SEI messages, in order.
 pub type MessageList = LentList<Message>;
 
 impl Message {
-    /// The number of bytes of the message as it is spelled: type, size and payload.
+    /// Returns the number of bytes of the coded message: type, size and payload.
     pub fn spelled_len(&self) -> usize
         ensures { result ≡ length (sei_message self.now) }
     {

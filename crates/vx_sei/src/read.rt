@@ -1,4 +1,4 @@
-//! An SEI RBSP read.
+//! Reading of an SEI RBSP.
 ghost use Rattle.std.specs.Prelude.{◌≡◌, ◌<◌, ◌↔◌, IsTrue, ℕ, true, false, List, [], ◌∷◌, ◌++◌, length, OnOk, IfOk, MatchOption};
 ghost use Rattle.vx_sei.specs.declared.message.Message.{Message};
 ghost use Rattle.vx_sei.specs.Sei.{ff_coded, sei_message, IsSei, is_carried, carried};
@@ -11,10 +11,14 @@ use crate::message::{
 use std::alloc::{AllocError, Global};
 use vx_bits::Bytes;
 
-/// The carried messages of an SEI RBSP, in order: those of types 137, 144 and 147. None exactly where the bytes are
-/// no SEI RBSP: no messages and the byte 80 (H.266 7.3.2.9, 7.3.6).
+/// Reads an SEI RBSP, and returns its messages of types 137, 144 and 147, in order.
 ///
-/// A type that passes 2^32 - 1 is none of these: its message is dropped like others.
+/// Returns `None` exactly if the bytes are no SEI RBSP: messages and the byte 80 (H.266 7.3.2.9, 7.3.6). A message
+/// whose type is above 2^32 - 1 is dropped like those of other types.
+///
+/// # Errors
+///
+/// `AllocError` if memory runs out.
 pub fn read_sei(alloc: Global, rbsp: &[u8]) -> Result<Option<MessageList>, AllocError>
     ensures { IfOk result (λ answer. MatchOption answer
         ((messages : List Message) → ¬ IsSei rbsp.now messages)
@@ -32,14 +36,14 @@ pub fn read_sei(alloc: Global, rbsp: &[u8]) -> Result<Option<MessageList>, Alloc
     Ok(Some(messages))
 }
 
-/// Whether what is left of an RBSP, of which messages were taken, is its last byte.
+/// Returns whether the rest of an RBSP, of which messages were taken, is its last byte.
 fn is_end(rbsp: &[u8], rest: &[u8]) -> bool
     ensures { IsTrue result ↔ ((length rest.now < length rbsp.now) × (rest.now ≡ 128 ∷ [])) }
 {
     rest.len() < rbsp.len() && rest == [TRAILING].as_slice()
 }
 
-/// The message that bytes begin with, and the bytes behind it.
+/// The message at the start of bytes, and the bytes after it.
 #[derive(Clone, Copy)]
 struct Front<'a> {
     /// payloadType, of any size
@@ -48,7 +52,7 @@ struct Front<'a> {
     rest: &'a [u8],
 }
 
-/// Takes the message that bytes begin with.
+/// Takes the message at the start of bytes.
 fn split_message(bytes: &[u8]) -> Option<Front>
     ensures { MatchOption result
         (¬ BeginsWithMessage bytes.now)
@@ -67,7 +71,7 @@ fn split_message(bytes: &[u8]) -> Option<Front>
     })
 }
 
-/// Takes the number that bytes begin with: bytes FF, each for 255, and a last byte below.
+/// Takes the number at the start of bytes: bytes FF, each for 255, and a last byte below.
 fn split_number(bytes: &[u8]) -> Option<(u128, &[u8])>
     ensures { MatchOption result
         ((n : ℕ) (rest : List ℕ) → bytes.now ≡ ff_coded n ++ rest → ⊥)
@@ -78,7 +82,7 @@ fn split_number(bytes: &[u8]) -> Option<(u128, &[u8])>
     Some((number, &bytes[run + 1..]))
 }
 
-/// Appends a message where it is of a type that is carried.
+/// Appends a message if its type is copied.
 fn gather(alloc: Global, messages: &mut MessageList, front: Front) -> Result<(), AllocError>
     ensures { OnOk result (messages.new ≡ messages.old
         ++ carried (record { kind = front.entry.kind; bytes = front.entry.payload.now } ∷ [])) }
@@ -91,7 +95,7 @@ fn gather(alloc: Global, messages: &mut MessageList, front: Front) -> Result<(),
     messages.push(Message { kind, bytes })
 }
 
-/// The type, where it is one that is carried.
+/// Returns the type, if it is one that is copied.
 fn carried_kind(kind: u128) -> Option<u32>
     ensures { MatchOption result (is_carried kind ≡ false) (λ k. (is_carried kind ≡ true) × (k ≡ kind)) }
 {

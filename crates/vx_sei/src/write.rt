@@ -1,11 +1,15 @@
-//! An SEI RBSP written.
+//! Writing of an SEI RBSP.
 ghost use Rattle.std.specs.Prelude.{◌≡◌, ◌<◌, ◌++◌, length, IfOk, OnOk};
 ghost use Rattle.vx_sei.specs.Sei.{ff_coded, sei_message, IsSei};
 
 use crate::message::{Message, MessageList, TRAILING};
 use std::alloc::{AllocError, Global};
 
-/// The SEI RBSP of messages, of which there is one at least (H.266 7.3.2.9, 7.3.6).
+/// Returns the SEI RBSP of messages, of which there must be at least one (H.266 7.3.2.9, 7.3.6).
+///
+/// # Errors
+///
+/// `AllocError` if memory runs out.
 pub fn write_sei(alloc: Global, messages: &MessageList) -> Result<Vec<u8>, AllocError>
     requires { 0 < length messages.now }
     ensures { IfOk result (λ rbsp. IsSei rbsp.items messages.now) }
