@@ -17,7 +17,7 @@ use vx_fields::pps::{
 use vx_layout::tile_bounds;
 use vx_table::Coder;
 
-/// The CTUs across or down of so many samples, of a CTU size's binary logarithm less 5.
+/// Returns the number of CTUs across or down for a number of samples; `log2` is the CTU size's binary logarithm less 5.
 pub(crate) fn ctus(samples: u32, log2: u32) -> u32
     requires { log2 < 3 }
     ensures count { result ≡ ctus_across samples log2 }
@@ -26,7 +26,7 @@ pub(crate) fn ctus(samples: u32, log2: u32) -> u32
     samples.div_ceil(32 << log2).min(512)
 }
 
-/// Codes the size of a tile column or row, where so many CTUs are left.
+/// Codes the size of a tile column or row, if `left` CTUs are left.
 fn code_size<I, C: Coder<I>>(
     field: u16,
     left: u32,
@@ -40,7 +40,7 @@ fn code_size<I, C: Coder<I>>(
     Ok(size + 1)
 }
 
-/// Codes the explicit sizes of tile columns or rows, so many, where there are so many CTUs.
+/// Codes the `count` explicit sizes of tile columns or rows of `total` CTUs.
 fn code_sizes<I, C: Coder<I>>(
     alloc: Global,
     field: u16,
@@ -65,7 +65,7 @@ fn code_sizes<I, C: Coder<I>>(
     Ok(sizes)
 }
 
-/// Codes the tiles of a picture of so many CTUs across and down.
+/// Codes the tiles of a picture of `columns` times `rows` CTUs.
 #[tactic(auto, unfolding(crate::specs::Partition::tiles_among), using(crate::proofs::Walking::then, crate::proofs::Walking::stop))]
 pub(crate) fn code_tiles<I, C: Coder<I>>(
     alloc: Global,
@@ -90,7 +90,7 @@ pub(crate) fn code_tiles<I, C: Coder<I>>(
     }
 }
 
-/// The tiles of explicit sizes, which were found to fit, unless memory runs out.
+/// Returns the tiles of explicit sizes, which were found to fit, unless memory runs out.
 fn tiles(alloc: Global, widths: &IdList, columns: u32, heights: &IdList, rows: u32) -> Option<Tiles>
     requires widths { (1 ≤ length widths.now) × All (λ size. 1 ≤ size) widths.now }
     requires heights { (1 ≤ length heights.now) × All (λ size. 1 ≤ size) heights.now }

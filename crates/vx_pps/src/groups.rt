@@ -9,7 +9,7 @@ ghost use Rattle.vx_pps.specs.inner.Found.{IsSpan, LiesInside};
 use crate::tiles::Tiles;
 use vx_layout::{Bounds, Rect};
 
-/// The tiles of a group: the first, and how many across and down.
+/// The tiles of a group: the first one, and the numbers across and down.
 #[derive(Clone, Copy, Debug)]
 pub(crate) struct Span {
     pub start: u32,
@@ -17,7 +17,7 @@ pub(crate) struct Span {
     pub high: u32,
 }
 
-/// The index of a bound.
+/// Returns the index of a bound.
 fn index_of(bounds: &Bounds, number: u32) -> u32
     requires { length bounds.now ≤ 513 }
     ensures index { (i : ℕ) → i < length bounds.now → slice_index bounds.now i ≡ number → result ≡ i }
@@ -30,7 +30,7 @@ fn index_of(bounds: &Bounds, number: u32) -> u32
     }
 }
 
-/// The tile that begins where a slice does.
+/// Returns the tile that begins where a slice does.
 pub(crate) fn tile_of(tiles: &Tiles, slice: Rect) -> u32
     requires { IsGrid tiles.now }
     ensures tile { (t : ℕ) → t < across tiles.now * down tiles.now → slice_index tiles.now.columns (column tiles.now t) ≡ slice.x → slice_index tiles.now.rows (row tiles.now t) ≡ slice.y → result ≡ t }
@@ -43,21 +43,21 @@ pub(crate) fn tile_of(tiles: &Tiles, slice: Rect) -> u32
     row * tiles.across() + column
 }
 
-/// The column behind a slice.
+/// Returns the column after a slice.
 fn right(slice: Rect) -> u32
     ensures { slice.x + slice.w < 2 ^ 32 → result ≡ slice.x + slice.w }
 {
     slice.x.saturating_add(slice.w)
 }
 
-/// The row below a slice.
+/// Returns the row below a slice.
 fn bottom(slice: Rect) -> u32
     ensures { slice.y + slice.h < 2 ^ 32 → result ≡ slice.y + slice.h }
 {
     slice.y.saturating_add(slice.h)
 }
 
-/// The tiles of the group that these slices are.
+/// Returns the tiles of the group that these slices form.
 pub(crate) fn span_of(tiles: &Tiles, slices: &[Rect]) -> Span
     requires grid { IsGrid tiles.now }
     requires columns { last tiles.now.columns < 2 ^ 32 }
@@ -74,7 +74,7 @@ pub(crate) fn span_of(tiles: &Tiles, slices: &[Rect]) -> Span
     }
 }
 
-/// How many of the slices are the first group: those up to the first one that ends at a bound of the tile rows.
+/// Returns how many of the slices are the first group: those up to the first one that ends at a bound of the tile rows.
 pub(crate) fn group_len(tiles: &Tiles, slices: &[Rect]) -> usize
     requires grid { IsGrid tiles.now }
     requires some { 0 < length slices.now }

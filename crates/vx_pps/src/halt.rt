@@ -1,18 +1,18 @@
-//! Why a walk over a picture parameter set ends before its form does.
+//! The reasons why a walk over a picture parameter set ends before its form does.
 ghost use Rattle.std.specs.Prelude.{◌≡◌};
 
 use std::alloc::AllocError;
 use vx_table::{SpellError, only_memory};
 
-/// Why a walk ends before its form does.
+/// The reason why a walk ends before its form does.
 pub enum Halt<E> {
     /// Memory ran out.
     Memory,
-    /// The coder refuses a field, for this cause.
+    /// The coder refuses a field, with this error.
     Refused(E),
 }
 
-/// Why the walk over a set that there is ends before: memory ran out.
+/// Returns the only error of a walk over items that are a set: memory ran out.
 pub(crate) fn memory_of(halt: Halt<SpellError>) -> AllocError
     requires { halt ≡ Halt.Refused SpellError.NoValue → ⊥ }
 {

@@ -1,38 +1,38 @@
-//! Laws of slices that a slice list can name: functions that do nothing, each with a law as its contract.
+//! Laws of slices that a slice list can describe. A law is a function without a body whose contract states it.
 ghost use Rattle.vx_pps.specs.laws.Lists.{ListsFallIntoGroups, FewFallIntoGroups, LayoutsAreLists, ListGivesSlices, SlicesAreReadBack, FewAreReadBack, BoundsAreReadBack};
 
-/// Slices that cover a picture in order, and that a slice list can name, fall into groups that can be listed with tile
-/// indices (H.266 7.3.2.5).
+/// If slices cover a picture in order, and a slice list can describe them, then they fall into groups that can be listed with
+/// tile indices (H.266 7.3.2.5).
 pub fn lists_fall_into_groups()
     ensures { ListsFallIntoGroups }
 {}
 
-/// Where they are one or two, they can be listed without tile indices.
+/// If they are one or two, then they can be listed without tile indices.
 pub fn few_fall_into_groups()
     ensures { FewFallIntoGroups }
 {}
 
-/// The slices of a layout of one subpicture are such slices, where a list can name them.
+/// If a layout has one subpicture and a list can describe its slices, then they are such slices.
 pub fn layouts_are_lists()
     ensures { LayoutsAreLists }
 {}
 
-/// What is written of groups that can be listed is read back as their slices.
+/// If groups can be listed and are written, then their slices are read back.
 pub fn list_gives_slices()
     ensures { ListGivesSlices }
 {}
 
-/// What is written of slices that a slice list can name is read back as these slices (H.266 7.3.2.5, 6.5.1).
+/// If a slice list can describe slices and they are written, then these slices are read back (H.266 7.3.2.5, 6.5.1).
 pub fn slices_are_read_back()
     ensures { SlicesAreReadBack }
 {}
 
-/// And so it is of one or two slices, where tile indices aren't spelled.
+/// The same holds for one or two slices if tile indices aren't coded.
 pub fn few_are_read_back()
     ensures { FewAreReadBack }
 {}
 
-/// The sizes of tile columns or rows are read back, and their bounds are those of these sizes.
+/// If the sizes of tile columns or rows are written, then they are read back, and their bounds are those of these sizes.
 pub fn bounds_are_read_back()
     ensures { BoundsAreReadBack }
 {}

@@ -1,24 +1,23 @@
-//! Laws of rewritten sets: functions that do nothing, each with a law as its contract.
+//! Laws of rewritten sets. A law is a function without a body whose contract states it.
 ghost use Rattle.vx_pps.specs.Reshaped.{FrameKeeps, RegionKeeps, ReshapedHasItsTiles, ReshapedTells};
 
-/// Of a rewritten set that is partitioned the tile columns, the tile rows and the slices are exactly the shape's
-/// (H.266 6.5.1).
+/// If a rewritten set is partitioned, then its tile columns, tile rows and slices are exactly the shape's (H.266 6.5.1).
 pub fn reshaped_has_its_tiles()
     ensures { ReshapedHasItsTiles }
 {}
 
-/// A rewritten set tells what its shape tells: ids, size, whether it is partitioned, the size of CTUs, whether loop filters
-/// cross the borders of tiles and slices, and the QP of a frame.
+/// If a set is rewritten, then it has the ids, the size, the partitioning, the CTU size, and the flags for loop filters
+/// across tiles and slices of its shape, and the QP if it is for a frame.
 pub fn reshaped_tells()
     ensures { ReshapedTells }
 {}
 
-/// The set for a region has the kept items of its source, in the place of absent fields too.
+/// If a set is rewritten for a region, then it has the kept items of its source, also those in place of absent fields.
 pub fn region_keeps()
     ensures { RegionKeeps }
 {}
 
-/// So has the set for a frame.
+/// If a set is rewritten for a frame, then it has them too.
 pub fn frame_keeps()
     ensures { FrameKeeps }
 {}

@@ -1,50 +1,52 @@
-//! Laws of picture parameter sets: functions that do nothing, each with a law as its contract.
+//! Laws of picture parameter sets. A law is a function without a body whose contract states it.
 ghost use Rattle.vx_pps.specs.laws.Sets.{WrittenIsRead, NoProperPrefix, SpellingIsShort, StarsTellKept, KeptDependsOnKept, KeptAndOthersTell, KeptTellsNumbers, TilesAreInLimits, SetsTellPartitions, ReadSlicesAreListable};
 
-/// What is written of a set is read as it.
+/// If a set is written, then its bytes are read as the set.
 pub fn written_is_read()
     ensures { WrittenIsRead }
 {}
 
-/// No spelling of a set is a proper prefix of another's.
+/// If two sets have different spellings, then neither is a proper prefix of the other.
 pub fn no_proper_prefix()
     ensures { NoProperPrefix }
 {}
 
-/// The spelling of a set has at most 2^16 bytes, by its limits on tiles and slices and the ranges of the fields that count others.
+/// If items are a set, then its spelling has at most 2^16 bytes, by its limits on tiles and slices and the ranges of the
+/// fields that count others.
 pub fn spelling_is_short()
     ensures { SpellingIsShort }
 {}
 
-/// The kept fields of a set are those without a star, and depend on kept fields and on pps_no_pic_partition_flag alone.
+/// If a field is kept, then it has no star, and depends only on kept fields and on pps_no_pic_partition_flag.
 pub fn kept_depends_on_kept()
     ensures depends { KeptDependsOnKept }
     ensures stars { StarsTellKept }
 {}
 
-/// Kept fields and the others tell the set.
+/// If two sets have the same kept fields and the same others, then they are the same.
 pub fn kept_and_others_tell()
     ensures { KeptAndOthersTell }
 {}
 
-/// Sets with the same kept items, those among them that stand for absent fields, give each kept field the same number.
+/// If two sets have the same kept items, including those in place of absent fields, then they give each kept field the same
+/// number.
 pub fn kept_tells_numbers()
     ensures { KeptTellsNumbers }
 {}
 
-/// The tiles of a partitioned picture are in the limits of a layout.
+/// If a picture is partitioned, then its tiles are within the limits of a layout.
 pub fn tiles_are_in_limits()
     ensures { TilesAreInLimits }
 {}
 
-/// A set tells the tiles of a partitioned picture, and its slices unless each subpicture is one: bounds and slices as a
-/// layout takes them (H.266 6.5.1).
+/// If a set is partitioned, then it determines the tiles, and the slices unless each subpicture is one: bounds and slices as
+/// a layout requires them (H.266 6.5.1).
 pub fn sets_tell_partitions()
     ensures { SetsTellPartitions }
 {}
 
-/// The slices that a slice list names are whole tiles or whole rows of one tile, and those in one tile stand next to one
-/// another, where they cover the picture once: they can be listed again (H.266 6.3.1, 7.3.2.5).
+/// If the slices of a slice list cover the picture once, then they are whole tiles or whole rows of one tile, and those in
+/// one tile are next to each other: they can be listed again (H.266 6.3.1, 7.3.2.5).
 pub fn read_slices_are_listable()
     ensures { ReadSlicesAreListable }
 {}

@@ -21,18 +21,18 @@ use vx_fields::pps::{
 use vx_layout::{Rect, RectList};
 use vx_table::{Cell, Coder, Coding, Fault, Limits, natural};
 
-/// How far a slice list was walked.
+/// The state of a walk over a slice list.
 #[derive(Drop)]
 pub struct Listed {
     /// The slices so far.
     pub slices: RectList,
     /// The tile where the next slice begins.
     pub next: u32,
-    /// The height of the slice before in tiles, less 1.
+    /// The height of the slice before it in tiles, less 1.
     pub before: u32,
 }
 
-/// Codes the width in tiles, less 1, of a slice that begins at a tile.
+/// Codes the width in tiles, less 1, of a slice that begins at `tile`.
 fn code_width<I, C: Coder<I>>(
     tiles: &Tiles,
     tile: u32,
@@ -51,7 +51,7 @@ fn code_width<I, C: Coder<I>>(
     code_below(field, across - column, coder, items)
 }
 
-/// Whether the height in tiles of a slice can be spelled that begins at a tile.
+/// Returns whether the height in tiles of a slice that begins at `tile` is coded.
 fn spells_height(tiles: &Tiles, deltas: bool, tile: u32) -> bool
     requires { IsGrid tiles.now }
     ensures { result ≡ words.spells_height tiles.now deltas tile }
@@ -59,7 +59,7 @@ fn spells_height(tiles: &Tiles, deltas: bool, tile: u32) -> bool
     deltas || tiles.column(tile) == 0
 }
 
-/// Codes the height in tiles, less 1, of a slice that begins at a tile, behind one of this height.
+/// Codes the height in tiles, less 1, of a slice that begins at `tile`, after one of height `before`.
 fn code_height<I, C: Coder<I>>(
     tiles: &Tiles,
     deltas: bool,
@@ -85,7 +85,7 @@ fn code_height<I, C: Coder<I>>(
     code_below(field, down - row, coder, items)
 }
 
-/// The heights in CTUs, less 1, that the explicit slice of a tile may have which comes next.
+/// Returns the heights in CTUs, less 1, that the next explicit slice of a tile may have.
 fn height_limits(is_last: bool, left: u32, room: u32) -> Limits<u32>
     requires room { 1 ≤ room }
     requires left { left < 2 ^ 20 }
@@ -101,7 +101,7 @@ fn height_limits(is_last: bool, left: u32, room: u32) -> Limits<u32>
     below(left)
 }
 
-/// Rows of a tile, from CTU row `y` on, as a slice.
+/// Returns rows of a tile, from CTU row `y` on, as a slice.
 fn strip(tile: Rect, y: u32, height: u32) -> Rect
     ensures { (result ∷ []) ≡ strips tile y (height ∷ []) }
 {
@@ -113,7 +113,7 @@ fn strip(tile: Rect, y: u32, height: u32) -> Rect
     }
 }
 
-/// Codes the height of an explicit slice of a tile, from CTU row `y` on, behind which so many explicit ones come.
+/// Codes the height of an explicit slice of a tile, from CTU row `y` on, after which `more` explicit ones come.
 fn code_strip<I, C: Coder<I>>(
     tile: Rect,
     last: u32,
@@ -136,7 +136,7 @@ fn code_strip<I, C: Coder<I>>(
     Ok(height + 1)
 }
 
-/// Appends so many slices of a tile of one height, from CTU row `y` on.
+/// Appends `times` slices of a tile of one height, from CTU row `y` on.
 fn push_whole(
     slices: &mut RectList,
     tile: Rect,
@@ -153,7 +153,7 @@ fn push_whole(
     Ok(())
 }
 
-/// Appends the slices of a tile from CTU row `y` on: of this height while it fits, and the rest where one is left.
+/// Appends the slices of a tile from CTU row `y` on: of this height while it fits, and a rest if there is one.
 fn push_strips(slices: &mut RectList, tile: Rect, y: u32, size: u32) -> Result<(), AllocError>
     requires size { 1 ≤ size }
     requires low { tile.y + tile.h < 2 ^ 20 }
@@ -169,7 +169,7 @@ fn push_strips(slices: &mut RectList, tile: Rect, y: u32, size: u32) -> Result<(
     Ok(())
 }
 
-/// Codes so many explicit slices of a tile, and appends all slices of it.
+/// Codes `explicit` explicit slices of a tile, and appends all slices of it.
 fn code_strips<I, C: Coder<I>>(
     tile: Rect,
     last: u32,
@@ -222,14 +222,15 @@ fn code_tile<I, C: Coder<I>>(
     }
 }
 
-/// Whether a slice of a width and a height in tiles, less 1, is one tile of several CTU rows.
+/// Returns whether a slice of a width and a height in tiles, less 1, is one tile of several CTU rows.
 fn may_be_cut(size: (u32, u32), rect: Rect) -> bool
     ensures { result ≡ list.may_be_cut size.0 size.1 rect }
 {
     size.0 == 0 && size.1 == 0 && rect.h > 1
 }
 
-/// Codes what a slice adds that begins at a tile, of a width and a height in tiles, less 1: itself, or the slices of the tile.
+/// Codes what a slice adds that begins at `tile`, with a width and a height in tiles, less 1: itself, or the slices of the
+/// tile.
 fn code_slices<I, C: Coder<I>>(
     tiles: &Tiles,
     last: u32,
@@ -256,7 +257,7 @@ fn code_slices<I, C: Coder<I>>(
     }
 }
 
-/// The cell of a step from a tile to another.
+/// Returns the cell of a step from a tile to another.
 fn delta_cell(tiles: &Tiles, tile: u32) -> Cell<u32>
     requires grid { IsGrid tiles.now }
     requires inside { tile < across tiles.now * down tiles.now }
@@ -274,7 +275,7 @@ fn delta_cell(tiles: &Tiles, tile: u32) -> Cell<u32>
     }
 }
 
-/// The tile behind a step from another.
+/// Returns the tile at a step from another.
 fn tile_at(tile: u32, step: i64) -> u32
     ensures { result ≡ numbers.natural (pos tile +ℤ step) }
 {
@@ -298,7 +299,7 @@ fn code_delta<I, C: Coder<I>>(
     }
 }
 
-/// Codes the tile where the next slice begins, behind one of a width and a height in tiles, less 1.
+/// Codes the tile where the next slice begins, after one with a width and a height in tiles, less 1.
 fn code_next<I, C: Coder<I>>(
     tiles: &Tiles,
     spelled: bool,
@@ -319,7 +320,7 @@ fn code_next<I, C: Coder<I>>(
     Ok(tiles.tile_behind(tile, width + 1, height + 1))
 }
 
-/// Whether the step to the next slice is spelled.
+/// Returns whether the step to the next slice is coded.
 fn spells_delta(deltas: bool, slices: &RectList, last: u32) -> bool
     ensures { result ≡ list.spells_delta deltas slices.now last }
 {
@@ -355,7 +356,7 @@ fn code_turn<I, C: Coder<I>>(
     Ok(())
 }
 
-/// Whether a slice before the last is left, and begins at a tile of the picture.
+/// Returns whether a slice before the last is left and begins at a tile of the picture.
 fn goes_on(tiles: &Tiles, last: u32, listed: &Listed) -> bool
     requires { IsGrid tiles.now }
     ensures { result ≡ list.goes_on tiles.now last listed.now }
@@ -386,7 +387,7 @@ fn code_turns<I, C: Coder<I>>(
     Ok(())
 }
 
-/// The slices with the last one, where the list doesn't lead out of the tiles.
+/// Returns the slices with the last one, if the list doesn't extend past the tiles.
 fn all_slices(tiles: &Tiles, last: u32, listed: Listed) -> Result<Option<RectList>, AllocError>
     requires { IsGrid tiles.now }
     ensures { IfOk result (λ slices. slices ≡ list.all_slices tiles.now last listed) }
@@ -408,7 +409,7 @@ fn all_slices(tiles: &Tiles, last: u32, listed: Listed) -> Result<Option<RectLis
     Ok(Some(slices))
 }
 
-/// Codes the slice list of a picture of `last` + 1 slices: the slices, where it doesn't lead out of the tiles.
+/// Codes the slice list of a picture of `last` + 1 slices, and returns the slices if it doesn't extend past the tiles.
 pub(crate) fn code_list<I, C: Coder<I>>(
     alloc: Global,
     tiles: &Tiles,

@@ -30,7 +30,7 @@ pub(crate) fn push(items: &mut Fields, field: u16, number: u32) -> Result<(), Al
     push_value(items, field, i64::from(number))
 }
 
-/// Appends the item of a field on a condition.
+/// Appends the item of a field if a condition holds.
 pub(crate) fn push_if(
     holds: bool,
     items: &mut Fields,
@@ -56,8 +56,8 @@ pub(crate) fn push_sizes(items: &mut Fields, field: u16, bounds: &Bounds) -> Res
     Ok(())
 }
 
-/// Appends the slice list of a picture, whose tile indices are spelled or not (H.266 7.3.2.5): each group of slices, but for
-/// the last one where it is a slice of whole tiles.
+/// Appends the slice list of a picture, whose tile indices are coded or not (H.266 7.3.2.5). It appends each group of slices,
+/// except the last one if it is a slice of whole tiles.
 pub(crate) fn push_list(
     items: &mut Fields,
     tiles: &Tiles,
@@ -77,7 +77,7 @@ pub(crate) fn push_list(
     Ok(())
 }
 
-/// Appends the items of a group, whose slices stand here, with others behind it.
+/// Appends the items of a group with the slices `here`, after which the slices `behind` come.
 fn push_group(
     items: &mut Fields,
     tiles: &Tiles,
@@ -100,14 +100,14 @@ fn push_group(
     push_next(items, tiles, deltas, span.start, behind)
 }
 
-/// Whether a slice of whole tiles is the last one.
+/// Returns whether a slice of whole tiles is the last one.
 fn is_last_whole(here: &[Rect], behind: &[Rect]) -> bool
     ensures { result ≡ ((length behind.now == 0) && (length here.now == 1)) }
 {
     behind.is_empty() && here.len() == 1
 }
 
-/// Appends how many tiles a group has across, where it can have several.
+/// Appends the number of tiles that a group has across, if it can have several.
 fn push_width(items: &mut Fields, tiles: &Tiles, span: Span) -> Result<(), AllocError>
     requires { IsGrid tiles.now }
     ensures { OnOk result (items.new ≡ items.old ++ width_items tiles.now span.start span.wide) }
@@ -122,7 +122,7 @@ fn push_width(items: &mut Fields, tiles: &Tiles, span: Span) -> Result<(), Alloc
     )
 }
 
-/// Appends how many tiles a group has down, where that is spelled.
+/// Appends the number of tiles that a group has down, if that is coded.
 fn push_height(
     items: &mut Fields,
     tiles: &Tiles,
@@ -144,7 +144,7 @@ fn push_height(
     )
 }
 
-/// Whether one slice is a tile of several CTU rows, which might have several slices.
+/// Returns whether one slice is a tile of several CTU rows, which might have several slices.
 fn may_be_cut(span: Span, slice: Rect) -> bool
     ensures { result ≡ ((span.wide == 1 && span.high == 1) && nat_lt 1 slice.h) }
 {
@@ -167,7 +167,8 @@ fn push_slices(items: &mut Fields, span: Span, slices: &[Rect]) -> Result<(), Al
     )
 }
 
-/// The slices of a tile whose heights are written: all but the last where it isn't higher than the one before it, else all.
+/// Returns the slices of a tile whose heights are written: all except the last if it isn't higher than the one before it,
+/// otherwise all.
 fn written(slices: &[Rect]) -> &[Rect]
     requires { 2 ≤ length slices.now }
     ensures { map (λ (r : Rect). r.h) result.now ≡ written_heights (map (λ (r : Rect). r.h) slices.now) }
@@ -180,7 +181,7 @@ fn written(slices: &[Rect]) -> &[Rect]
     }
 }
 
-/// Appends the number of the heights that are written of the slices of a tile, and these heights.
+/// Appends the number of the heights that are written for the slices of a tile, and these heights.
 fn push_heights(items: &mut Fields, slices: &[Rect]) -> Result<(), AllocError>
     requires { 2 ≤ length slices.now }
     ensures { OnOk result (let heights = written_heights (map (λ (r : Rect). r.h) slices.now) in items.new ≡ items.old ++ (only_item pps_num_exp_slices_in_tile (pos (length heights)) ++ strip_items heights)) }
@@ -197,7 +198,7 @@ fn push_heights(items: &mut Fields, slices: &[Rect]) -> Result<(), AllocError>
     Ok(())
 }
 
-/// Appends how far on from a tile the next group begins, where one is left and tile indices are spelled.
+/// Appends the step from a tile to the start of the next group, if there is one and tile indices are coded.
 fn push_next(
     items: &mut Fields,
     tiles: &Tiles,
@@ -217,7 +218,7 @@ fn push_next(
     push_step(items, tile, tile_of(tiles, *next))
 }
 
-/// Appends how far on a tile is from another.
+/// Appends the step from a tile to another.
 fn push_step(items: &mut Fields, from: u32, to: u32) -> Result<(), AllocError>
     ensures { OnOk result (items.new ≡ items.old ++ only_item pps_tile_idx_delta_val (pos to +ℤ neg_ℤ (pos from))) }
 {

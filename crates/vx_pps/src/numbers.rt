@@ -11,7 +11,7 @@ ghost use Rattle.vx_pps.specs.inner.Walked.{Walked};
 use crate::halt::Halt;
 use vx_table::{Cell, Coder, Coding, Fault, Limits, Part, Scope, code_parts, natural};
 
-/// The values below a bound.
+/// Returns the range of the values below a bound.
 pub(crate) const fn below(bound: u32) -> Limits<u32>
     ensures { result ≡ below bound }
 {
@@ -21,7 +21,7 @@ pub(crate) const fn below(bound: u32) -> Limits<u32>
     }
 }
 
-/// Codes a number of ue(v), in these limits.
+/// Codes a number of ue(v), in a range.
 pub(crate) fn code_number<I, C: Coder<I>>(
     field: u16,
     limits: Limits<u32>,
@@ -57,7 +57,7 @@ pub(crate) fn code_below<I, C: Coder<I>>(
     code_number(field, below(bound), coder, items)
 }
 
-/// Codes a number of u(n), in these limits.
+/// Codes a number of u(n), in a range.
 pub(crate) fn code_fixed<I, C: Coder<I>>(
     field: u16,
     bits: u32,

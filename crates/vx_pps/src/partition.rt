@@ -20,16 +20,16 @@ use vx_fields::pps::{
 use vx_layout::{Bounds, RectList};
 use vx_table::{Coder, Fault, Limits};
 
-/// What a picture parameter set tells of tiles and slices.
+/// The tiles and slices that a picture parameter set describes.
 #[derive(Drop)]
 pub struct Partition {
-    /// The tiles; none where the picture isn't partitioned.
+    /// The tiles; none if the picture isn't partitioned.
     pub tiles: Tiles,
-    /// The slices, where the slice list names them.
+    /// The slices, if a slice list describes them.
     pub slices: Option<RectList>,
 }
 
-/// Codes a flag, whose values are below a bound.
+/// Codes a flag that is below a bound.
 fn code_flag<I, C: Coder<I>>(
     field: u16,
     bound: u32,
@@ -76,7 +76,7 @@ fn code_last<I, C: Coder<I>>(coder: &mut C, items: &mut I) -> Result<u32, Halt<C
     code_number(pps_num_slices_in_pic_minus1, limits, coder, items)
 }
 
-/// Codes whether the steps from slice to slice are spelled.
+/// Codes whether the steps from slice to slice are coded.
 #[tactic(auto, unfolding(crate::specs::Partition::deltas_flag), using(crate::proofs::Walking::then, crate::proofs::Walking::stop))]
 fn code_deltas<I, C: Coder<I>>(
     last: u32,
@@ -91,7 +91,8 @@ fn code_deltas<I, C: Coder<I>>(
     code_flag(pps_tile_idx_delta_present_flag, 2, coder, items)
 }
 
-/// Codes whether loop filters cross the borders of slices; where the slice list leads out of the tiles no value is in range.
+/// Codes whether loop filters cross the borders of slices; if the slice list extends past the tiles, then no value is in
+/// range.
 #[tactic(auto, unfolding(crate::specs::Partition::across_flag), using(crate::proofs::Walking::then, crate::proofs::Walking::stop))]
 fn code_across<I, C: Coder<I>>(
     last: u32,
@@ -109,7 +110,7 @@ fn code_across<I, C: Coder<I>>(
     code_flag(field, bound, coder, items)
 }
 
-/// Codes the number of the slices, their list, and what is said of them.
+/// Codes the number of the slices, their list, and the flags for them.
 #[tactic(auto, unfolding(crate::specs::Partition::listed_slices), using(crate::proofs::Walking::then, crate::proofs::Walking::stop))]
 fn code_listed<I, C: Coder<I>>(
     alloc: Global,
@@ -127,7 +128,7 @@ fn code_listed<I, C: Coder<I>>(
     Ok(slices)
 }
 
-/// Codes what is said of slices that are subpictures.
+/// Codes the flags for slices that are subpictures.
 #[tactic(auto, unfolding(crate::specs::Partition::subpicture_slices), using(crate::proofs::Walking::then, crate::proofs::Walking::stop))]
 fn code_subpictures<I, C: Coder<I>>(
     coder: &mut C,
@@ -157,7 +158,7 @@ fn code_slices_among<I, C: Coder<I>>(
     code_listed(alloc, tiles, coder, items)
 }
 
-/// Codes the tiles and slices of a picture of so many luma samples across and down.
+/// Codes the tiles and slices of a picture of `width` times `height` luma samples.
 #[tactic(auto, unfolding(crate::specs::Partition::divided), using(crate::proofs::Walking::then, crate::proofs::Walking::stop))]
 fn code_divided<I, C: Coder<I>>(
     alloc: Global,

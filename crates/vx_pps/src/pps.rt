@@ -1,4 +1,4 @@
-//! A picture parameter set, and what is asked of it.
+//! A picture parameter set, and the values that callers need of it.
 ghost use Rattle.std.specs.Prelude.{◌≡◌, slice_index};
 ghost use Rattle.vx_table.specs.Loaded as loading;
 
@@ -14,9 +14,12 @@ use vx_fields::pps::{
 use vx_layout::{Bounds, RectList};
 use vx_table::{Scope, natural};
 
-/// A picture parameter set. It is seen as the list of its items.
+/// A picture parameter set (H.266 7.3.2.5).
 ///
-/// What is asked of it is computed once, when it is made.
+/// The values that callers need are computed once, when it is made. Width and height are 1 to 16,384. If the picture is
+/// partitioned, the tile bounds rise from 0 to its columns and rows of CTUs, at most 512. It has a slice list exactly if it
+/// is partitioned and pps_single_slice_per_subpic_flag isn't 1: 1 to 1,000 slices, each with a CTU (law
+/// [`sets_tell_partitions`](crate::sets_tell_partitions)). *Model:* the list of its items.
 #[derive(Drop)]
 pub struct Pps {
     fields: Fields,
@@ -41,7 +44,7 @@ impl Model for Pps {
     ghost invariant = { λ p. IsPps p.fields p.partition × (p.scope.value ≡ loaded fresh p.fields) × (p.default_active_0 ≡ default_active p.fields 0) × (p.default_active_1 ≡ default_active p.fields 1) × IsReadFrom pps_form p.rbsp p.fields };
 }
 
-/// The number of a field's item, counted from 0 among those of this field; 0 where there are fewer.
+/// Returns the number of a field's item, by its index from 0 among those of this field; 0 if there are fewer.
 fn number_at(fields: &Fields, field: u16, index: usize) -> u32
     ensures { result ≡ slice_index (loading.numbers_of fields.now field) index }
 {
@@ -67,7 +70,7 @@ impl Pps {
     ghost use Rattle.vx_table.specs.ReadFrom.{IsReadFrom};
     ghost use Rattle.vx_pps.specs.Pps.{IsPps, pps_form};
 
-    /// The set of these items, which has these tiles and slices, and was read from this RBSP, where it is given.
+    /// Returns the set with these items, which has these tiles and slices, and was read from `rbsp` if that is given.
     pub(crate) fn new(
         alloc: Global,
         fields: Fields,
@@ -93,7 +96,7 @@ impl Pps {
         })
     }
 
-    /// Its items, as H.266 orders them.
+    /// Returns its items, in the order of H.266.
     pub fn fields(&self) -> &Fields
         ensures items { result.now ≡ self.now }
         ensures set { set.ArePpsItems result.now }
@@ -101,28 +104,30 @@ impl Pps {
         &self.fields
     }
 
-    /// The RBSP that it was read from (H.266 7.3.2.5), where that has at most 1,024 bytes; `None` of a longer one, and of a set that was put together.
+    /// Returns the RBSP from which it was read (H.266 7.3.2.5), if that has at most 1,024 bytes.
+    ///
+    /// Returns `None` for a longer one, and for a set that was made of items.
     pub fn rbsp(&self) -> Option<&Bytes>
         ensures { IsReadFrom pps_form (option_copied result) self.now }
     {
         self.rbsp.as_ref()
     }
 
-    /// The numbers of its fields, from which headers are read.
+    /// Returns the numbers of its fields, under which headers are read.
     pub fn scope(&self) -> &Scope
         ensures { result.now ≡ loaded fresh self.now }
     {
         &self.scope
     }
 
-    /// The number that its last item of a field gives it; 0 where it has none.
+    /// Returns the number of a field's last item, or 0 if it has none.
     pub fn number(&self, field: u16) -> u32
         ensures { result ≡ number self.now field }
     {
         self.scope.latest(field)
     }
 
-    /// Its id: pps_pic_parameter_set_id.
+    /// Returns its id: pps_pic_parameter_set_id, below 64.
     pub fn pps_id(&self) -> u8
         ensures value { result ≡ number self.now names.pps_pic_parameter_set_id }
         ensures low { result < 64 }
@@ -130,7 +135,7 @@ impl Pps {
         self.scope.latest(pps_pic_parameter_set_id) as u8
     }
 
-    /// The id of the SPS that it refers to: pps_seq_parameter_set_id.
+    /// Returns the id of the SPS to which it refers: pps_seq_parameter_set_id, below 16.
     pub fn sps_id(&self) -> u8
         ensures value { result ≡ number self.now names.pps_seq_parameter_set_id }
         ensures low { result < 16 }
@@ -138,57 +143,58 @@ impl Pps {
         self.scope.latest(pps_seq_parameter_set_id) as u8
     }
 
-    /// The width of a picture in luma samples.
+    /// Returns the width of a picture in luma samples.
     pub fn width(&self) -> u32
         ensures { result ≡ number self.now names.pps_pic_width_in_luma_samples }
     {
         self.scope.latest(pps_pic_width_in_luma_samples)
     }
 
-    /// The height of a picture in luma samples.
+    /// Returns the height of a picture in luma samples.
     pub fn height(&self) -> u32
         ensures { result ≡ number self.now names.pps_pic_height_in_luma_samples }
     {
         self.scope.latest(pps_pic_height_in_luma_samples)
     }
 
-    /// Whether a picture may have several tiles and slices: pps_no_pic_partition_flag is 0.
+    /// Returns whether a picture may have several tiles and slices: pps_no_pic_partition_flag is 0.
     pub fn partitioned(&self) -> bool
         ensures { result ≡ set.is_partitioned self.now }
     {
         self.scope.latest(pps_no_pic_partition_flag) == 0
     }
 
-    /// The bounds of the tile columns in CTUs (H.266 6.5.1); none where the picture isn't partitioned.
+    /// Returns the bounds of the tile columns in CTUs (H.266 6.5.1); none if the picture isn't partitioned.
     pub fn columns(&self) -> &Bounds
         ensures { result.now ≡ set.tile_columns_of self.now }
     {
         &self.partition.tiles.columns
     }
 
-    /// The bounds of the tile rows in CTUs (H.266 6.5.1); none where the picture isn't partitioned.
+    /// Returns the bounds of the tile rows in CTUs (H.266 6.5.1); none if the picture isn't partitioned.
     pub fn rows(&self) -> &Bounds
         ensures { result.now ≡ set.tile_rows_of self.now }
     {
         &self.partition.tiles.rows
     }
 
-    /// The slices as rectangles of CTUs (H.266 6.5.1), in the order of the slice list; `None` where the picture isn't
-    /// partitioned, or each subpicture is a slice.
+    /// Returns the slices as rectangles of CTUs (H.266 6.5.1), in the order of the slice list.
+    ///
+    /// Returns `None` if the picture isn't partitioned, or each subpicture is a slice.
     pub fn slices(&self) -> Option<&RectList>
         ensures { option_copied result ≡ set.slice_list_of self.now }
     {
         self.partition.slices.as_ref()
     }
 
-    /// The active entries of list 0 where a slice says nothing, less 1.
+    /// Returns the default number of active entries of list 0, less 1.
     pub fn default_active_0(&self) -> u32
         ensures { result ≡ set.default_active self.now 0 }
     {
         self.default_active_0
     }
 
-    /// The active entries of list 1 where a slice says nothing, less 1.
+    /// Returns the default number of active entries of list 1, less 1.
     pub fn default_active_1(&self) -> u32
         ensures { result ≡ set.default_active self.now 1 }
     {

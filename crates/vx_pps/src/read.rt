@@ -1,4 +1,4 @@
-//! Reading, writing and sifting a picture parameter set.
+//! Reading and writing of a picture parameter set, and selection of its kept fields.
 ghost use Rattle.std.specs.Prelude.{◌≡◌, ◌≤◌, length, IfOk, Ok};
 ghost use Rattle.vx_bits.specs.Limits.{unit_limit};
 ghost use Rattle.vx_table.specs.Reading.{ReadsValue};
@@ -12,7 +12,7 @@ use std::alloc::{AllocError, Global};
 use vx_bits::{BitReader, BitWriter, Fields, ReadError, short_rbsp};
 use vx_table::Unwritten;
 
-/// The set of items that were read from an RBSP.
+/// Returns the set of items that were read from an RBSP.
 fn set_of(
     alloc: Global,
     fields: Fields,
@@ -27,11 +27,12 @@ fn set_of(
     Pps::new(alloc, fields, partition, short)
 }
 
-/// Reads a picture parameter set, `pic_parameter_set_rbsp()`, clause 7.3.2.5, from an RBSP of at most 2^23 bytes.
+/// Reads a picture parameter set, `pic_parameter_set_rbsp()` (clause 7.3.2.5), from an RBSP of at most 2^23 bytes.
 ///
 /// # Errors
 ///
-/// The first refusal, or want of memory.
+/// - `Refused` with the first refusal.
+/// - `Memory` if memory runs out.
 pub fn read_pps(alloc: Global, rbsp: &[u8]) -> Result<Pps, ReadError>
     requires { length rbsp.now ≤ unit_limit }
     ensures { ReadsValue pps_form rbsp.now result }
@@ -48,12 +49,14 @@ pub fn read_pps(alloc: Global, rbsp: &[u8]) -> Result<Pps, ReadError>
     }
 }
 
-/// Reads the fields of a picture parameter set, `pic_parameter_set_rbsp()`, clause 7.3.2.5, from an RBSP of at most 2^23 bytes, and
-/// appends their items.
+/// Reads the fields of a picture parameter set, `pic_parameter_set_rbsp()` (clause 7.3.2.5), and appends their items.
+///
+/// The RBSP has at most 2^23 bytes.
 ///
 /// # Errors
 ///
-/// The first refusal, and `into` has then gained the fields read before; want of memory.
+/// - `Refused` with the first refusal. `into` has then gained the fields read before.
+/// - `Memory` if memory runs out.
 pub fn read_pps_fields(alloc: Global, rbsp: &[u8], into: &mut Fields) -> Result<(), ReadError>
     requires { length rbsp.now ≤ unit_limit }
     ensures { ReadsFields rbsp.now into.old result into.new }
@@ -66,7 +69,11 @@ pub fn read_pps_fields(alloc: Global, rbsp: &[u8], into: &mut Fields) -> Result<
     }
 }
 
-/// Writes a picture parameter set: its RBSP.
+/// Returns the RBSP of a picture parameter set (clause 7.3.2.5).
+///
+/// # Errors
+///
+/// `AllocError` if memory runs out.
 pub fn write_pps(alloc: Global, pps: &Pps) -> Result<Vec<u8>, AllocError>
     ensures { IfOk result (λ bytes. IsPpsSpelling pps.now bytes.items) }
 {
@@ -79,8 +86,12 @@ pub fn write_pps(alloc: Global, pps: &Pps) -> Result<Vec<u8>, AllocError>
     }
 }
 
-/// The items of a set's kept fields. Those that say what stands in picture headers are among them also where they are
-/// absent, as 0.
+/// Returns the items of a set's kept fields. Those that say what is in picture headers are included even if they are absent,
+/// as 0.
+///
+/// # Errors
+///
+/// `AllocError` if memory runs out.
 pub fn keep_pps(alloc: Global, pps: &Pps) -> Result<Fields, AllocError>
     ensures { IfOk result (λ kept. kept ≡ kept_pps_items pps.now) }
 {

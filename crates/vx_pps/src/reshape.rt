@@ -1,4 +1,4 @@
-//! The picture parameter set that is sent for a region or a frame, put together of its source's fields and stated ones.
+//! The picture parameter set that is sent for a region or a frame, made of fields of its source and new ones.
 ghost use Rattle.std.specs.Prelude.{◌≡◌, cond, List, ◌++◌, OnOk, IfOk};
 ghost use Rattle.vx_bits.specs.declared.list.Item.{Item};
 ghost use Rattle.vx_pps.specs.Groups.{Group};
@@ -19,7 +19,7 @@ use vx_bits::Fields;
 use vx_fields::pps::*;
 use vx_table::{Rewriter, SpellError, Unwritten, ceil_log2, item, items_of};
 
-/// Whether the picture isn't partitioned.
+/// Returns the flag that the picture isn't partitioned.
 fn whole_flag(source: &Pps, shape: &PpsShape) -> u32
     ensures { result ≡ reshaped.whole_flag source.now shape.now }
 {
@@ -30,7 +30,7 @@ fn whole_flag(source: &Pps, shape: &PpsShape) -> u32
     }
 }
 
-/// The id of the one subpicture.
+/// Appends the id of the one subpicture.
 fn push_id(items: &mut Fields, whole: u32, id: Option<(u32, u32)>) -> Result<(), AllocError>
     ensures { OnOk result (items.new ≡ items.old ++ pps_subpic_id_items whole id) }
 {
@@ -43,7 +43,7 @@ fn push_id(items: &mut Fields, whole: u32, id: Option<(u32, u32)>) -> Result<(),
     push(items, pps_subpic_id, id)
 }
 
-/// Ids, size, and whether the picture isn't partitioned.
+/// Appends ids, size, and whether the picture isn't partitioned.
 fn push_front(items: &mut Fields, whole: u32, shape: &PpsShape) -> Result<(), AllocError>
     ensures { OnOk result (items.new ≡ items.old ++ front_items whole shape.now) }
 {
@@ -58,7 +58,7 @@ fn push_front(items: &mut Fields, whole: u32, shape: &PpsShape) -> Result<(), Al
     push_id(items, whole, shape.subpic_id)
 }
 
-/// All tile columns and rows, each with its size.
+/// Appends all tile columns and rows, each with its size.
 fn push_tiles(items: &mut Fields, shape: &PpsShape) -> Result<(), AllocError>
     requires { CanBeDivided shape.now }
     ensures { OnOk result (items.new ≡ items.old ++ tile_items shape.now) }
@@ -72,7 +72,7 @@ fn push_tiles(items: &mut Fields, shape: &PpsShape) -> Result<(), AllocError>
     push_sizes(items, pps_tile_row_height_minus1, &tiles.rows)
 }
 
-/// The flags of several tiles.
+/// Appends the flags of several tiles.
 fn push_tile_flags(items: &mut Fields, shape: &PpsShape) -> Result<(), AllocError>
     requires { CanBeDivided shape.now }
     ensures { OnOk result (items.new ≡ items.old ++ tile_flag_items shape.now) }
@@ -89,7 +89,7 @@ fn push_tile_flags(items: &mut Fields, shape: &PpsShape) -> Result<(), AllocErro
     ])
 }
 
-/// The number of the slices, their list, and whether loop filters cross their borders.
+/// Appends the number of the slices, their list, and whether loop filters cross their borders.
 fn push_slices(items: &mut Fields, shape: &PpsShape) -> Result<(), AllocError>
     requires { CanBeDivided shape.now }
     ensures { OnOk result ((groups : List Group) → AreGroups shape.now.tiles groups shape.now.slices → items.new ≡ items.old ++ slice_list_items shape.now groups) }
@@ -107,7 +107,7 @@ fn push_slices(items: &mut Fields, shape: &PpsShape) -> Result<(), AllocError>
     )
 }
 
-/// What is said of tiles and slices.
+/// Appends the fields of tiles and slices.
 fn push_division(items: &mut Fields, shape: &PpsShape) -> Result<(), AllocError>
     requires { CanBeDivided shape.now }
     ensures { OnOk result ((division : List Item) → Divides shape.now division → items.new ≡ items.old ++ division) }
@@ -123,7 +123,7 @@ fn push_division(items: &mut Fields, shape: &PpsShape) -> Result<(), AllocError>
     push_slices(items, shape)
 }
 
-/// Whether it is said where weights are.
+/// Returns whether the place of weights is coded.
 fn has_weights(source: &Pps) -> bool
     ensures { result ≡ reshaped.has_weights source.now }
 {
@@ -132,7 +132,7 @@ fn has_weights(source: &Pps) -> bool
     weighted && source.number(pps_rpl_info_in_ph_flag) != 0
 }
 
-/// What stands in the picture headers of a frame.
+/// Appends the flags for what is in the picture headers of a frame.
 fn push_info(items: &mut Fields, source: &Pps) -> Result<(), AllocError>
     ensures { OnOk result (items.new ≡ items.old ++ info_items source.now) }
 {
@@ -152,14 +152,14 @@ fn push_info(items: &mut Fields, source: &Pps) -> Result<(), AllocError>
     push(items, pps_qp_delta_info_in_ph_flag, 0)
 }
 
-/// The QP from which slices differ.
+/// Appends the QP to which slices add.
 fn push_qp(items: &mut Fields, shape: &PpsShape) -> Result<(), AllocError>
     ensures { OnOk result (items.new ≡ items.old ++ written.only_item pps_init_qp_minus26 shape.now.init_qp) }
 {
     push_value(items, pps_init_qp_minus26, i64::from(shape.init_qp))
 }
 
-/// What is stated of a frame's tools.
+/// Appends the new items of a frame's tools.
 fn push_tools(items: &mut Fields, source: &Pps, shape: &PpsShape) -> Result<(), AllocError>
     ensures { OnOk result (items.new ≡ items.old ++ frame_tool_items source.now shape.now.init_qp) }
 {
@@ -170,7 +170,7 @@ fn push_tools(items: &mut Fields, source: &Pps, shape: &PpsShape) -> Result<(), 
     push_info(items, source)
 }
 
-/// All that is stated.
+/// Returns all new items.
 fn stated(alloc: Global, source: &Pps, shape: &PpsShape) -> Result<Fields, AllocError>
     requires { IsShape source.now shape.now }
     ensures { IfOk result (λ items. StatesAll source.now shape.now items) }
@@ -187,7 +187,7 @@ fn stated(alloc: Global, source: &Pps, shape: &PpsShape) -> Result<Fields, Alloc
     Ok(items)
 }
 
-/// Puts a set together of the items of some fields and of those of all others, where there is one that has both.
+/// Makes a set of the items of some fields and those of all others, if there is one that has both.
 fn put_together(
     alloc: Global,
     names: &[u16],
@@ -206,7 +206,7 @@ fn put_together(
     }
 }
 
-/// Why no set is put together: there is none, unless memory ran out.
+/// Returns why no set is made: there is none, unless memory ran out.
 fn unmade(halt: Halt<SpellError>) -> Result<Option<Pps>, AllocError>
     ensures { IfOk result (λ set. (set ≡ None) × (halt ≡ Halt.Refused SpellError.NoValue)) }
 {
@@ -216,7 +216,14 @@ fn unmade(halt: Halt<SpellError>) -> Result<Option<Pps>, AllocError>
     }
 }
 
-/// The set that is sent for a region of its source's pictures, or for a frame of several sources.
+/// Returns the set that is sent for a region of its source's pictures, or for a frame of several sources.
+///
+/// It has what `shape` states, and everything else from `pps`; tile sizes and slices are coded one by one. There is no other
+/// such set. Requires that `shape` is valid.
+///
+/// # Errors
+///
+/// `AllocError` if memory runs out.
 pub fn reshape_pps(alloc: Global, pps: &Pps, shape: &PpsShape) -> Result<Pps, AllocError>
     requires { IsShape pps.now shape.now }
     ensures { IfOk result (λ set. IsReshapedPps pps.now shape.now set) }

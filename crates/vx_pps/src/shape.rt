@@ -1,9 +1,9 @@
-//! What a rewritten picture parameter set is to say.
+//! The shape of a rewritten picture parameter set.
 
 use crate::tiles::Tiles;
 use vx_layout::RectList;
 
-/// What a picture parameter set is to say that is sent for a region of its source's pictures, or for a frame of several
+/// A description of the picture parameter set that is sent for a region of its source's pictures, or for a frame of several
 /// sources.
 #[derive(Drop)]
 pub struct PpsShape {
@@ -17,7 +17,7 @@ pub struct PpsShape {
     pub height: u32,
     /// The size of a CTU in luma samples.
     pub ctb: u32,
-    /// Where the id of the one subpicture stands in this set: the bits of an id, less 1, and the id.
+    /// The subpicture's id, if it is in this set: the number of bits of an id, less 1, and the id.
     pub subpic_id: Option<(u32, u32)>,
     /// The tiles.
     pub tiles: Tiles,
@@ -27,7 +27,7 @@ pub struct PpsShape {
     pub across_tiles: bool,
     /// Whether loop filters cross the borders of slices.
     pub across_slices: bool,
-    /// The QP from which slices differ, less 26, of a frame.
+    /// The QP to which slices add, less 26, of a frame.
     pub init_qp: i32,
     /// Whether it is for a frame of several sources.
     pub merged: bool,

@@ -1,7 +1,7 @@
-//! The tables of H.266 clause 7.3.2.5, the picture parameter set. What it tells of tiles and slices, which no table can
-//! carry, stands between [`SUBPIC_IDS`] and [`PREDICTION`] in direct style.
+//! The tables of H.266 clause 7.3.2.5, the picture parameter set. Its fields of tiles and slices can't be written as a table,
+//! and are coded in direct style between [`SUBPIC_IDS`] and [`PREDICTION`].
 //!
-//! They are cut where fields that a rewritten set takes over and fields that it replaces meet.
+//! Tables end where fields that a rewritten set copies meet fields that it replaces.
 use vx_bits::rules::{
     MIXED_NAL_TYPES, PPS_EXTENSION, REFERENCE_WRAPAROUND, SCALING_WINDOW, TOO_LARGE,
     TOO_MANY_SUBPICTURES,
@@ -34,7 +34,7 @@ pub const SIZE: [Row; 8] = table! {
     }
 };
 
-/// The scaling window, and whether picture headers say that a picture is not shown.
+/// The scaling window, and whether picture headers can say that a picture is not shown.
 pub const OUTPUT: [Row; 2] = table! {
     pps_scaling_window_explicit_signalling_flag in 0..=0 else Profile(SCALING_WINDOW);
     pps_output_flag_present_flag;
@@ -56,7 +56,7 @@ pub const SUBPIC_IDS: [Row; 9] = table! {
     }
 };
 
-/// Behind tiles and slices: references and weights.
+/// After tiles and slices: references and weights.
 pub const PREDICTION: [Row; 7] = table! {
     pps_cabac_init_present_flag;
     for LIST in 2 { pps_num_ref_idx_default_active_minus1: ue in 0..=14; }
@@ -66,7 +66,7 @@ pub const PREDICTION: [Row; 7] = table! {
     pps_ref_wraparound_enabled_flag in 0..=0 else Profile(REFERENCE_WRAPAROUND);
 };
 
-/// The QP from which slices differ.
+/// The QP to which slices add.
 pub const INIT_QP: [Row; 1] = table! { pps_init_qp_minus26*: se in -38..=37; };
 
 /// Offsets of the chroma QP.
@@ -102,7 +102,7 @@ pub const DBF_CONTROL: [Row; 6] = table! {
     }
 };
 
-/// Whether the deblocking filter's parameters stand in picture headers. It is a kept field also where it is absent, as 0.
+/// Whether the deblocking filter's parameters are in picture headers. It is a kept field even if it is absent, as 0.
 pub const DBF_INFO: [Row; 6] = table! {
     let PARTITIONED = (not pps_no_pic_partition_flag);
     let HAS_DBF_INFO = (PARTITIONED and pps_deblocking_filter_override_enabled_flag);
@@ -126,8 +126,7 @@ pub const DBF_OFFSETS: [Row; 9] = table! {
     }
 };
 
-/// What else stands in picture headers. Lists, sample adaptive offset and weights are kept fields also where they are
-/// absent, as 0.
+/// What else is in picture headers. Lists, sample adaptive offset and weights are kept fields even if they are absent, as 0.
 pub const HEADER_INFO: [Row; 15] = table! {
     let IS_WEIGHTED = (pps_weighted_pred_flag or pps_weighted_bipred_flag);
     if (not pps_no_pic_partition_flag) {

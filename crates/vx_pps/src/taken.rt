@@ -1,4 +1,4 @@
-//! The fields that a rewritten set has as its source.
+//! The fields that a rewritten set copies from its source.
 ghost use Rattle.std.specs.Prelude.{◌≡◌, ◌++◌, cond, OnOk, IfOk};
 ghost use Rattle.vx_table.specs.Unstarred.{unstarred};
 ghost use Rattle.vx_pps.specs.Pps.{before_tiles};
@@ -9,7 +9,7 @@ use std::alloc::{AllocError, Global};
 use vx_fields::pps::*;
 use vx_table::{NameList, push_unstarred};
 
-/// Appends the fields without a star that stand before tiles and slices.
+/// Appends the fields before tiles and slices that have no star.
 fn push_front(names: &mut NameList) -> Result<(), AllocError>
     ensures { OnOk result (names.new ≡ names.old ++ unstarred before_tiles) }
 {
@@ -18,7 +18,8 @@ fn push_front(names: &mut NameList) -> Result<(), AllocError>
     Ok(())
 }
 
-/// Appends what is taken over for a frame: the kept fields, but for those that say what stands in picture headers; and the gap at the end.
+/// Appends what is copied for a frame: the kept fields, except those that say what is in picture headers; and the gap at the
+/// end.
 fn push_for_frame(names: &mut NameList) -> Result<(), AllocError>
     ensures { OnOk result (names.new ≡ names.old ++ taken_for_frame) }
 {
@@ -32,7 +33,7 @@ fn push_for_frame(names: &mut NameList) -> Result<(), AllocError>
     Ok(())
 }
 
-/// Appends what is taken over for a region: the kept fields, the QP, and where filter and QP stand; and this gap.
+/// Appends what is copied for a region: the kept fields, the QP, and where filter and QP are; and the gap at the end.
 fn push_for_region(names: &mut NameList) -> Result<(), AllocError>
     ensures { OnOk result (names.new ≡ names.old ++ taken_for_region) }
 {
@@ -53,7 +54,7 @@ fn push_for_region(names: &mut NameList) -> Result<(), AllocError>
     Ok(())
 }
 
-/// The fields that are taken over.
+/// Returns the fields that are copied.
 pub(crate) fn taken(alloc: Global, merged: bool) -> Result<NameList, AllocError>
     ensures { IfOk result (λ names. names ≡ cond merged taken_for_frame taken_for_region) }
 {

@@ -14,7 +14,7 @@ pub struct Tiles {
 }
 
 impl Tiles {
-    /// NumTileColumns
+    /// Returns the number of tile columns: NumTileColumns.
     pub fn across(&self) -> u32
         requires { IsGrid self.now }
         ensures { result ≡ across self.now }
@@ -22,7 +22,7 @@ impl Tiles {
         self.columns.len() as u32 - 1
     }
 
-    /// NumTileRows
+    /// Returns the number of tile rows: NumTileRows.
     pub fn down(&self) -> u32
         requires { IsGrid self.now }
         ensures { result ≡ down self.now }
@@ -30,7 +30,7 @@ impl Tiles {
         self.rows.len() as u32 - 1
     }
 
-    /// NumTilesInPic
+    /// Returns the number of tiles: NumTilesInPic.
     pub fn count(&self) -> u32
         requires { IsGrid self.now }
         ensures { result ≡ across self.now * down self.now }
@@ -38,7 +38,7 @@ impl Tiles {
         self.across() * self.down()
     }
 
-    /// The column of a tile.
+    /// Returns the column of a tile.
     pub fn column(&self, tile: u32) -> u32
         requires { IsGrid self.now }
         ensures { result ≡ column self.now tile }
@@ -46,7 +46,7 @@ impl Tiles {
         tile % self.across()
     }
 
-    /// The row of a tile.
+    /// Returns the row of a tile.
     pub fn row(&self, tile: u32) -> u32
         requires { IsGrid self.now }
         ensures { result ≡ row self.now tile }
@@ -54,7 +54,8 @@ impl Tiles {
         tile / self.across()
     }
 
-    /// So many tiles across and down from a tile on, as a rectangle of CTUs; a bound past the last one counts as 0.
+    /// Returns `wide` tiles across and `high` down from a tile on, as a rectangle of CTUs; a bound past the last one counts
+    /// as 0.
     pub fn block(&self, tile: u32, wide: u32, high: u32) -> Rect
         requires grid { IsGrid self.now }
         requires inside { tile < across self.now * down self.now }
@@ -72,8 +73,10 @@ impl Tiles {
         }
     }
 
-    /// The tile where the next slice begins, where it isn't spelled, behind a slice of so many tiles across and down from a
-    /// tile on: the one beside the slice, or at the end of the columns the first one below it (H.266 7.4.3.5).
+    /// Returns the tile at which the next slice begins if its index isn't coded (H.266 7.4.3.5).
+    ///
+    /// The slice before it starts at `tile` and is `wide` x `high` tiles. That is the tile to its right, or after the last
+    /// column the first tile below it.
     pub fn tile_behind(&self, tile: u32, wide: u32, high: u32) -> u32
         requires grid { IsGrid self.now }
         requires inside { tile < across self.now * down self.now }
@@ -90,7 +93,7 @@ impl Tiles {
     }
 }
 
-/// A bound by its index, and 0 past the last one.
+/// Returns a bound by its index, or 0 past the last one.
 fn bound(bounds: &Bounds, index: u32) -> u32
     ensures { result ≡ slice_index bounds.now index }
 {

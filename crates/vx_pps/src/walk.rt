@@ -18,7 +18,7 @@ use vx_fields::pps::{
 };
 use vx_table::{Coder, Scope, parts};
 
-/// Codes what stands before tiles and slices.
+/// Codes the fields before tiles and slices.
 fn code_front<I, C: Coder<I>>(
     scope: &mut Scope,
     coder: &mut C,
@@ -34,7 +34,7 @@ fn code_front<I, C: Coder<I>>(
     )
 }
 
-/// Codes what stands behind them.
+/// Codes the fields after them.
 fn code_tools<I, C: Coder<I>>(
     scope: &mut Scope,
     coder: &mut C,
@@ -59,11 +59,12 @@ fn code_tools<I, C: Coder<I>>(
     )
 }
 
-/// Codes a picture parameter set, and gives its tiles and slices.
+/// Codes a picture parameter set, and returns its tiles and slices.
 ///
 /// # Errors
 ///
-/// The coder's, at the first field that it refuses; want of memory.
+/// - `Refused` with the coder's error at the first field that it refuses.
+/// - `Memory` if memory runs out.
 #[tactic(auto, unfolding(crate::specs::Pps::pps_form), using(crate::proofs::Walking::then, crate::proofs::Walking::stop))]
 pub(crate) fn code_pps<I, C: Coder<I>>(
     alloc: Global,

@@ -1,34 +1,34 @@
-//! Laws of sequence parameter sets: functions that do nothing, each with a law as its contract.
+//! Laws of sequence parameter sets. A law is a function without a body whose contract states it.
 ghost use Rattle.vx_sps.specs.Set.{WrittenIsRead, NoProperPrefix, SpellingIsShort};
 ghost use Rattle.vx_sps.specs.Depends.{KeptDependsOnKept, StarsTellKept, KeptAreSifted, KeptAndOthersTell};
 
-/// What is written of a set is read as it.
+/// If a set is written, then its bytes are read as the set.
 pub fn written_is_read()
     ensures { WrittenIsRead }
 {}
 
-/// No spelling of a set is a proper prefix of another's.
+/// If two sets have different spellings, then neither is a proper prefix of the other.
 pub fn no_proper_prefix()
     ensures { NoProperPrefix }
 {}
 
-/// The spelling of a set has at most 2^17 bytes, by the ranges of the fields that count others.
+/// If items are a set, then its spelling has at most 2^17 bytes, by the ranges of the fields that count others.
 pub fn spelling_is_short()
     ensures { SpellingIsShort }
 {}
 
-/// The kept fields of a set are those without a star, and depend on kept fields alone.
+/// If a field is kept, then it has no star and depends only on kept fields.
 pub fn kept_depends_on_kept()
     ensures depends { KeptDependsOnKept }
     ensures stars { StarsTellKept }
 {}
 
-/// The items of kept fields are what sifting keeps of a set ([`crate::keep_sps`]): no absent field stands among them.
+/// If a set is given, then the items of kept fields are what [`crate::keep_sps`] selects: they include no absent field.
 pub fn kept_are_sifted()
     ensures { KeptAreSifted }
 {}
 
-/// Kept fields and the others tell the set.
+/// If two sets have the same kept fields and the same others, then they are the same.
 pub fn kept_and_others_tell()
     ensures { KeptAndOthersTell }
 {}

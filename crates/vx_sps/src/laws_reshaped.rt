@@ -1,18 +1,18 @@
-//! Laws of rewritten sets: functions that do nothing, each with a law as its contract.
+//! Laws of rewritten sets. A law is a function without a body whose contract states it.
 ghost use Rattle.vx_sps.specs.laws.Reread.{ReshapedSays, ReshapedSignals, ReshapedKeeps};
 
-/// A rewritten set says what its shape says: width, height, rectangles, flags and ids. So does what is read of it again,
-/// since that is the set ([`crate::written_is_read`]).
+/// If a set is rewritten, then it has the width, height, rectangles, flags and ids of its shape. So has what is read of it
+/// again, since that is the set ([`crate::written_is_read`]).
 pub fn reshaped_says()
     ensures { ReshapedSays }
 {}
 
-/// A rewritten set signals its shape's id, and of the ids of its subpictures what its shape's plan says.
+/// If a set is rewritten, then it signals its shape's id, and the ids of its subpictures as the shape's plan says.
 pub fn reshaped_signals()
     ensures { ReshapedSignals }
 {}
 
-/// A rewritten set has the kept fields of its source.
+/// If a set is rewritten, then it has the kept fields of its source.
 pub fn reshaped_keeps()
     ensures { ReshapedKeeps }
 {}

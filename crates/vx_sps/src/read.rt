@@ -1,4 +1,4 @@
-//! Reading, writing and sifting a sequence parameter set.
+//! Reading and writing of a sequence parameter set, and selection of its kept fields.
 
 ghost use Rattle.std.specs.Prelude.{◌≡◌, ◌≤◌, length, IfOk};
 ghost use Rattle.vx_table.specs.Kept.{Keeps};
@@ -30,19 +30,23 @@ fn write_fields(bits: &mut BitWriter, items: &mut Unwritten<'_>) -> Result<(), S
     code_sps(&mut Scope::new(), bits, items)
 }
 
-/// Sifts the set whose items come next: appends those of its kept fields.
+/// Selects from the set whose items come next: appends those of its kept fields.
 fn keep_fields(items: &mut Unwritten<'_>, kept: &mut Fields) -> Result<(), SpellError>
     ensures { Keeps sps_form kept.old items.old result kept.new items.new }
 {
     code_sps(&mut Scope::new(), items, kept)
 }
 
-/// Reads the fields of a sequence parameter set, `seq_parameter_set_rbsp()`, clause 7.3.2.4, from an RBSP of at most 2^23 bytes, and
-/// appends their items.
+/// Reads the fields of a sequence parameter set, `seq_parameter_set_rbsp()` (clause 7.3.2.4), and appends their items.
+///
+/// The RBSP has at most 2^23 bytes.
 ///
 /// # Errors
 ///
-/// The first refusal, or want of memory. `into` has then gained the fields read before.
+/// - `Refused` with the first refusal.
+/// - `Memory` if memory runs out.
+///
+/// After an error, `into` has gained the fields read before.
 pub fn read_sps_fields(rbsp: &[u8], into: &mut Fields) -> Result<(), ReadError>
     requires { length rbsp.now ≤ unit_limit }
     ensures { (new : Place) × Reads sps_form (at_front rbsp.now) into.old result new into.new }
@@ -61,11 +65,12 @@ fn read_items(alloc: Global, rbsp: &[u8]) -> Result<Fields, ReadError>
     Ok(items)
 }
 
-/// Reads a sequence parameter set, `seq_parameter_set_rbsp()`, clause 7.3.2.4, from an RBSP of at most 2^23 bytes.
+/// Reads a sequence parameter set, `seq_parameter_set_rbsp()` (clause 7.3.2.4), from an RBSP of at most 2^23 bytes.
 ///
 /// # Errors
 ///
-/// The first refusal, or want of memory.
+/// - `Refused` with the first refusal.
+/// - `Memory` if memory runs out.
 pub fn read_sps(alloc: Global, rbsp: &[u8]) -> Result<Sps, ReadError>
     requires { length rbsp.now ≤ unit_limit }
     ensures { ReadsValue sps_form rbsp.now result }
@@ -75,7 +80,11 @@ pub fn read_sps(alloc: Global, rbsp: &[u8]) -> Result<Sps, ReadError>
     Ok(Sps::new(alloc, items, short)?)
 }
 
-/// Writes a sequence parameter set: its RBSP.
+/// Returns the RBSP of a sequence parameter set (clause 7.3.2.4).
+///
+/// # Errors
+///
+/// `AllocError` if memory runs out.
 pub fn write_sps(alloc: Global, sps: &Sps) -> Result<Vec<u8>, AllocError>
     ensures { IfOk result (λ bytes. IsSpsSpelling sps.now bytes.items) }
 {
@@ -88,7 +97,11 @@ pub fn write_sps(alloc: Global, sps: &Sps) -> Result<Vec<u8>, AllocError>
     }
 }
 
-/// The items of a set's kept fields, in order: those that a set rewritten from it has too, whatever its shape.
+/// Returns the items of a set's kept fields, in order. A set rewritten from it has the same, whatever its shape.
+///
+/// # Errors
+///
+/// `AllocError` if memory runs out.
 pub fn keep_sps(alloc: Global, sps: &Sps) -> Result<Fields, AllocError>
     ensures { IfOk result (λ kept. kept ≡ kept_sps_items sps.now) }
 {

@@ -1,4 +1,4 @@
-//! The sequence parameter set that is sent for a region or a frame, put together of its source's fields and stated ones.
+//! The sequence parameter set that is sent for a region or a frame, made of fields of its source and new ones.
 
 ghost use Rattle.std.specs.Prelude.{◌≡◌, ◌+◌, ◌<◌, ◌≤◌, [], ◌++◌, length, replicate, OnOk, IfOk};
 ghost use Rattle.vx_sps.specs.Depends.{taken_sps_fields};
@@ -23,7 +23,7 @@ use vx_table::{
     quotient,
 };
 
-/// An item of a field with the number that the source gives it.
+/// Returns an item of a field with the number that the source gives it.
 fn same(source: &Sps, field: u16) -> Item
     ensures { result ≡ reshaped.item_of_source source.now field }
 {
@@ -39,7 +39,7 @@ fn push_ids(id: u8, into: &mut Fields) -> Result<(), AllocError>
     ])
 }
 
-/// Appends so many equal items.
+/// Appends `times` equal items.
 #[tactic(auto, using(crate::proofs::Pushed::equal_more))]
 fn push_times(item: Item, times: u32, into: &mut Fields) -> Result<(), AllocError>
     ensures { OnOk result (into.new ≡ into.old ++ replicate times item) }
@@ -50,7 +50,7 @@ fn push_times(item: Item, times: u32, into: &mut Fields) -> Result<(), AllocErro
     Ok(())
 }
 
-/// Profile, tier and level.
+/// Appends profile, tier and level.
 fn push_profile(source: &Sps, level: u8, into: &mut Fields) -> Result<(), AllocError>
     ensures { OnOk result (into.new ≡ into.old ++ profile_items source.now level) }
 {
@@ -67,14 +67,14 @@ fn push_profile(source: &Sps, level: u8, into: &mut Fields) -> Result<(), AllocE
     into.push(item(ptl_num_sub_profiles, 0))
 }
 
-/// Whether a window leaves anything out.
+/// Returns whether a window leaves anything out.
 fn has_window(window: [u32; 4]) -> bool
     ensures { result ≡ reshaped.has_window window }
 {
     (window[0] != 0 || window[1] != 0) || (window[2] != 0 || window[3] != 0)
 }
 
-/// Width, height and window.
+/// Appends width, height and window.
 fn push_size(shape: &SpsShape, into: &mut Fields) -> Result<(), AllocError>
     ensures { OnOk result (into.new ≡ into.old ++ picture_size_items shape.now.width shape.now.height shape.now.window) }
 {
@@ -100,7 +100,7 @@ fn push_window(window: [u32; 4], into: &mut Fields) -> Result<(), AllocError>
     ])
 }
 
-/// The place of a subpicture of several.
+/// Appends the place of one of several subpictures.
 fn push_place(
     columns: u32,
     rows: u32,
@@ -136,7 +136,7 @@ fn push_place(
     )
 }
 
-/// The places of several subpictures.
+/// Appends the places of several subpictures.
 fn push_places(
     columns: u32,
     rows: u32,
@@ -158,7 +158,7 @@ fn push_places(
     Ok(())
 }
 
-/// One subpicture, whose id is mapped.
+/// Appends one subpicture, whose id is mapped.
 fn push_one(id_len: u32, id: Option<u32>, into: &mut Fields) -> Result<(), AllocError>
     ensures { OnOk result (into.new ≡ into.old ++ one_items id_len id) }
 {
@@ -176,7 +176,7 @@ fn push_one(id_len: u32, id: Option<u32>, into: &mut Fields) -> Result<(), Alloc
     }
 }
 
-/// Several subpictures, or one whose id is its index.
+/// Appends several subpictures, or one whose id is its index.
 fn push_many(columns: u32, rows: u32, rects: &RectList, into: &mut Fields) -> Result<(), AllocError>
     requires few { length rects.now ≤ 1000 }
     ensures { OnOk result (into.new ≡ into.old ++ many_items columns rows rects.now) }
@@ -190,7 +190,7 @@ fn push_many(columns: u32, rows: u32, rects: &RectList, into: &mut Fields) -> Re
     ])
 }
 
-/// The subpictures of a picture of so many columns and rows of CTUs.
+/// Appends the subpictures of a picture of `columns` times `rows` CTUs.
 fn push_subpics(
     columns: u32,
     rows: u32,
@@ -213,7 +213,7 @@ fn push_subpics(
     }
 }
 
-/// DPB parameters of the highest sublayer.
+/// Appends DPB parameters of the highest sublayer.
 fn push_dpb(source: &Sps, numbers: [u32; 3], into: &mut Fields) -> Result<(), AllocError>
     ensures { OnOk result (into.new ≡ into.old ++ dpb_items source.now numbers) }
 {
@@ -226,7 +226,7 @@ fn push_dpb(source: &Sps, numbers: [u32; 3], into: &mut Fields) -> Result<(), Al
     ])
 }
 
-/// The rate of the highest sublayer.
+/// Appends the picture rate of the highest sublayer.
 fn push_rate(source: &Sps, into: &mut Fields) -> Result<(), AllocError>
     ensures { OnOk result (into.new ≡ into.old ++ rate_items source.now) }
 {
@@ -241,7 +241,7 @@ fn push_rate(source: &Sps, into: &mut Fields) -> Result<(), AllocError>
     )
 }
 
-/// Timing, where the source has it.
+/// Appends timing, if the source has it.
 fn push_timing(source: &Sps, into: &mut Fields) -> Result<(), AllocError>
     ensures { OnOk result (into.new ≡ into.old ++ timing_items source.now) }
 {
@@ -259,7 +259,7 @@ fn push_timing(source: &Sps, into: &mut Fields) -> Result<(), AllocError>
     push_rate(source, into)
 }
 
-/// All that is stated, in order.
+/// Returns all new items, in order.
 fn stated_items(alloc: Global, source: &Sps, shape: &SpsShape) -> Result<Fields, AllocError>
     requires { IsShape (ctb_size_of source.now) shape.now }
     ensures items { IfOk result (λ items. items ≡ stated_sps_items source.now shape.now) }
@@ -278,11 +278,12 @@ fn stated_items(alloc: Global, source: &Sps, shape: &SpsShape) -> Result<Fields,
     Ok(into)
 }
 
-/// Appends the set that has these items of the fields that are taken over, and those of the others.
+/// Appends the set that has these items of the copied fields, and those of all others.
 ///
 /// # Errors
 ///
-/// `NoValue` where there is none; want of memory.
+/// - `NoValue` if there is none.
+/// - `Memory` if memory runs out.
 fn rewrite(
     names: &[u16],
     taken: &Fields,
@@ -301,12 +302,14 @@ fn rewrite(
     code_sps(&mut Scope::new(), &mut rewriter, into)
 }
 
-/// The set that says what `shape` says, and all else as its source `sps`: its kept fields are the source's, whether
-/// there is timing, and the usability information.
+/// Returns the set that has what `shape` states, and everything else from its source `sps`.
+///
+/// Its kept fields, whether there is timing, and the usability information are the source's. There is no other such set.
+/// Requires that `shape` is valid.
 ///
 /// # Errors
 ///
-/// Where memory runs out.
+/// `AllocError` if memory runs out.
 pub fn reshape_sps(alloc: Global, sps: &Sps, shape: &SpsShape) -> Result<Sps, AllocError>
     requires { IsShape (ctb_size_of sps.now) shape.now }
     ensures { IfOk result (λ reshaped. IsReshapedSps sps.now shape.now reshaped) }

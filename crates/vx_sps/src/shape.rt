@@ -1,8 +1,8 @@
-//! What a rewritten sequence parameter set is to say.
+//! The shape of a rewritten sequence parameter set.
 
 use vx_layout::RectList;
 
-/// The numbers of a rewritten sequence parameter set that aren't its source's.
+/// A description of a rewritten sequence parameter set: the numbers that aren't its source's.
 #[derive(Drop)]
 pub struct SpsShape {
     /// Its id: `sps_seq_parameter_set_id`.
@@ -22,18 +22,18 @@ pub struct SpsShape {
     pub subpics: SubpicPlan,
 }
 
-/// The subpictures of a rewritten sequence parameter set.
+/// A description of the subpictures of a rewritten sequence parameter set.
 #[derive(Drop)]
 pub enum SubpicPlan {
-    /// No subpicture is spoken of.
+    /// The set doesn't describe subpictures.
     Absent,
-    /// One, whose id is mapped.
+    /// One subpicture, whose id is mapped.
     One {
         /// `sps_subpic_id_len_minus1`.
         id_len: u32,
-        /// Its id, where the set has it; else the picture parameter sets have it.
+        /// Its id, if it is in the set; otherwise it is in the picture parameter sets.
         id: Option<u32>,
     },
-    /// These rectangles of CTUs, each treated as a picture; a subpicture's id is its index.
+    /// Subpictures with these rectangles of CTUs, each treated as a picture; the id of each is its index.
     Many(RectList),
 }

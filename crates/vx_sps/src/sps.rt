@@ -1,4 +1,4 @@
-//! A sequence parameter set, and what is asked of it.
+//! A sequence parameter set, and the values that callers need of it.
 
 ghost use Rattle.std.specs.Prelude.{◌≡◌, ◌+◌, ◌^◌, ◌<◌, ◌≤◌, List, length, slice_index, IfOk};
 ghost use Rattle.vx_table.specs.Scope.{fresh, loaded};
@@ -21,9 +21,9 @@ use vx_layout::Rect;
 use vx_rpl::{RplNumbers, RplTable};
 use vx_table::{Scope, natural, quotient};
 
-/// A sequence parameter set. It is seen as the list of its items.
+/// A sequence parameter set (H.266 7.3.2.4).
 ///
-/// What is asked of it is computed once, when it is made.
+/// The values that callers need are computed once, when it is made. *Model:* the list of its items.
 #[derive(Drop)]
 pub struct Sps {
     fields: Fields,
@@ -47,7 +47,7 @@ impl Model for Sps {
     ghost invariant = { λ s. IsKept s.fields s.rbsp s.scope.value s.subpictures s.table s.extra_ph_bits s.extra_sh_bits };
 }
 
-/// How many flags of a field are 1.
+/// Returns how many flags of a field are 1.
 #[tactic(auto, using(crate::proofs::Counted::flag_more, crate::proofs::Counted::flag_passed))]
 fn set_flags(field: u16, fields: &Fields) -> u32
     ensures { result ≡ set.set_flags field fields.now }
@@ -62,7 +62,7 @@ fn set_flags(field: u16, fields: &Fields) -> u32
     count
 }
 
-/// The CTU size of a set whose numbers the scope has.
+/// Returns the CTU size of a set whose numbers the scope has.
 fn ctb_size(scope: &Scope) -> u32
     requires { slice_index scope.now sps.sps_log2_ctu_size_minus5 < 3 }
     ensures { result ≡ 2 ^ (slice_index scope.now sps.sps_log2_ctu_size_minus5 + 5) }
@@ -70,14 +70,14 @@ fn ctb_size(scope: &Scope) -> u32
     1 << (scope.latest(sps_log2_ctu_size_minus5) + 5)
 }
 
-/// The reference picture list structures of a set.
+/// Returns the reference picture list structures of a set.
 fn structures(alloc: Global, fields: &Fields, scope: &Scope) -> Result<RplTable, AllocError>
     requires { scope.now ≡ loaded fresh fields.now }
     ensures { IfOk result (λ table. table ≡ table_of (set.is_weighted fields.now) fields.now) }
 {
     let weighted = scope.latest(sps_weighted_pred_flag) != 0
         || scope.latest(sps_weighted_bipred_flag) != 0;
-    // A PPS says the last of these, which no structure of a set reads.
+    // The last of these is in a PPS, and no structure of a set depends on it.
     let numbers = RplNumbers {
         long_term: scope.latest(sps_long_term_ref_pics_flag) != 0,
         weighted,
@@ -102,7 +102,7 @@ impl Sps {
     ghost use Rattle.vx_sps.specs.Structure.{sps_form};
     ghost use Rattle.vx_table.specs.ReadFrom.{IsReadFrom};
 
-    /// The set of these items, which were read from this RBSP, where it is given.
+    /// Returns the set with these items, which were read from `rbsp` if that is given.
     pub(crate) fn new(alloc: Global, fields: Fields, rbsp: Option<Bytes>) -> Result<Sps, AllocError>
         requires items { set.AreSpsItems fields }
         requires read { IsReadFrom sps_form rbsp fields }
@@ -128,7 +128,7 @@ impl Sps {
         })
     }
 
-    /// Its items, as H.266 orders them.
+    /// Returns its items, in the order of H.266.
     pub fn fields(&self) -> &Fields
         ensures items { result.now ≡ self.now }
         ensures set { set.AreSpsItems result.now }
@@ -136,28 +136,30 @@ impl Sps {
         &self.fields
     }
 
-    /// The RBSP that it was read from (H.266 7.3.2.4), where that has at most 1,024 bytes; `None` of a longer one, and of a set that was put together.
+    /// Returns the RBSP from which it was read (H.266 7.3.2.4), if that has at most 1,024 bytes.
+    ///
+    /// Returns `None` for a longer one, and for a set that was made of items.
     pub fn rbsp(&self) -> Option<&Bytes>
         ensures { IsReadFrom sps_form (option_copied result) self.now }
     {
         self.rbsp.as_ref()
     }
 
-    /// The numbers of its fields, from which headers are read.
+    /// Returns the numbers of its fields, under which headers are read.
     pub fn scope(&self) -> &Scope
         ensures { result.now ≡ loaded fresh self.now }
     {
         &self.scope
     }
 
-    /// The number that its last item of a field gives it; 0 where it has none.
+    /// Returns the number of a field's last item, or 0 if it has none.
     pub fn number(&self, field: u16) -> u32
         ensures { result ≡ number self.now field }
     {
         self.scope.latest(field)
     }
 
-    /// Its id, by which PPSs refer to it: sps_seq_parameter_set_id.
+    /// Returns its id, by which PPSs refer to it: sps_seq_parameter_set_id, below 16.
     pub fn sps_id(&self) -> u8
         ensures value { result ≡ number self.now sps.sps_seq_parameter_set_id }
         ensures low { result < 16 }
@@ -165,28 +167,28 @@ impl Sps {
         self.scope.latest(sps_seq_parameter_set_id) as u8
     }
 
-    /// The width of the largest picture in luma samples: sps_pic_width_max_in_luma_samples.
+    /// Returns the width of the largest picture in luma samples: sps_pic_width_max_in_luma_samples.
     pub fn width(&self) -> u32
         ensures { result ≡ set.width_of self.now }
     {
         self.scope.latest(sps_pic_width_max_in_luma_samples)
     }
 
-    /// The height of the largest picture in luma samples: sps_pic_height_max_in_luma_samples.
+    /// Returns the height of the largest picture in luma samples: sps_pic_height_max_in_luma_samples.
     pub fn height(&self) -> u32
         ensures { result ≡ set.height_of self.now }
     {
         self.scope.latest(sps_pic_height_max_in_luma_samples)
     }
 
-    /// The CTU size in luma samples, 32, 64 or 128: CtbSizeY.
+    /// Returns the CTU size in luma samples, 32, 64 or 128: CtbSizeY.
     pub fn ctb(&self) -> u32
         ensures { result ≡ set.ctb_size_of self.now }
     {
         ctb_size(&self.scope)
     }
 
-    /// The number of subpictures, from 1 to 1,000: sps_num_subpics_minus1 + 1.
+    /// Returns the number of subpictures, from 1 to 1,000: sps_num_subpics_minus1 + 1.
     pub fn subpics(&self) -> u32
         ensures number { result ≡ subpics_of self.now }
         ensures most { result ≤ 1000 }
@@ -194,7 +196,7 @@ impl Sps {
         self.scope.latest(sps_num_subpics_minus1) + 1
     }
 
-    /// What is kept of a subpicture.
+    /// Returns what is stored of a subpicture.
     fn subpicture(&self, i: u32) -> Subpicture
         requires { i < subpics_of self.now }
         ensures { result ≡ subpicture_of self.now i }
@@ -202,7 +204,7 @@ impl Sps {
         self.subpictures.item(i as usize)
     }
 
-    /// The rectangle of a subpicture, in CTUs: sps_subpic_ctu_top_left_x and so on, H.266 7.4.3.4.
+    /// Returns the rectangle of a subpicture, in CTUs: sps_subpic_ctu_top_left_x and so on (H.266 7.4.3.4).
     pub fn rect(&self, i: u32) -> Rect
         requires { i < subpics_of self.now }
         ensures { result ≡ pictures.rect_of self.now i }
@@ -210,7 +212,7 @@ impl Sps {
         self.subpicture(i).rect
     }
 
-    /// Whether a subpicture is treated as a picture: sps_subpic_treated_as_pic_flag, or where that is absent, true.
+    /// Returns whether a subpicture is treated as a picture: sps_subpic_treated_as_pic_flag, or true if that is absent.
     pub fn treated(&self, i: u32) -> bool
         requires { i < subpics_of self.now }
         ensures { result ≡ pictures.is_treated self.now i }
@@ -218,8 +220,8 @@ impl Sps {
         self.subpicture(i).treated
     }
 
-    /// Whether in-loop filters cross the borders of a subpicture: sps_loop_filter_across_subpic_enabled_flag, or where
-    /// that is absent, false.
+    /// Returns whether in-loop filters cross the borders of a subpicture: sps_loop_filter_across_subpic_enabled_flag, or
+    /// false if that is absent.
     pub fn filtered(&self, i: u32) -> bool
         requires { i < subpics_of self.now }
         ensures { result ≡ pictures.is_filtered self.now i }
@@ -227,7 +229,7 @@ impl Sps {
         self.subpicture(i).filtered
     }
 
-    /// The id of a subpicture, where no PPS says another: sps_subpic_id, or where that is absent, its index.
+    /// Returns the id of a subpicture, if no PPS gives another: sps_subpic_id, or its index if that is absent.
     pub fn id(&self, i: u32) -> u32
         requires { i < subpics_of self.now }
         ensures { result ≡ pictures.sps_subpic_id_of self.now i }
@@ -235,21 +237,21 @@ impl Sps {
         self.subpicture(i).id
     }
 
-    /// The reference picture list structures.
+    /// Returns the reference picture list structures.
     pub fn table(&self) -> &RplTable
         ensures { result.now ≡ table_of (set.is_weighted self.now) self.now }
     {
         &self.table
     }
 
-    /// The extra bits of a picture header: NumExtraPhBits.
+    /// Returns the number of extra bits of a picture header: NumExtraPhBits.
     pub fn extra_ph_bits(&self) -> u32
         ensures { result ≡ set.extra_ph_bits_of self.now }
     {
         self.extra_ph_bits
     }
 
-    /// The extra bits of a slice header: NumExtraShBits.
+    /// Returns the number of extra bits of a slice header: NumExtraShBits.
     pub fn extra_sh_bits(&self) -> u32
         ensures { result ≡ set.extra_sh_bits_of self.now }
     {

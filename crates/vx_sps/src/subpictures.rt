@@ -20,20 +20,20 @@ use vx_fields::sps::{
 use vx_layout::Rect;
 use vx_table::{Scope, natural};
 
-/// A subpicture, as a set keeps it.
+/// A subpicture, as a set stores it.
 #[derive(Clone, Copy, Debug)]
 pub(crate) struct Subpicture {
     /// Its rectangle, in CTUs.
     pub rect: Rect,
-    /// It is treated as a picture.
+    /// Whether it is treated as a picture.
     pub treated: bool,
-    /// In-loop filters cross its borders.
+    /// Whether in-loop filters cross its borders.
     pub filtered: bool,
-    /// Its id, where no PPS says another.
+    /// Its id, if no PPS gives another.
     pub id: u32,
 }
 
-/// Notes the numbers of a field's items, in order.
+/// Stores the numbers of a field's items, in order.
 #[tactic(auto, using(crate::proofs::Counted::number_more, crate::proofs::Counted::number_passed))]
 fn note_numbers(fields: &Fields, field: u16, numbers: &mut IdList) -> Result<(), AllocError>
     requires { numbers.old ≡ [] }
@@ -48,28 +48,28 @@ fn note_numbers(fields: &Fields, field: u16, numbers: &mut IdList) -> Result<(),
     Ok(())
 }
 
-/// A number by its place; 0 where there is none.
+/// Returns a number by its place, or 0 if there is none.
 fn number_at(numbers: &IdList, i: u32) -> u32
     ensures { result ≡ slice_index numbers.now i }
 {
     number_or(numbers, i, 0)
 }
 
-/// A number by its place; another where there is none.
+/// Returns a number by its place, or another if there is none.
 fn number_or(numbers: &IdList, i: u32, other: u32) -> u32
     ensures { result ≡ slice_index_or numbers.now i other }
 {
     numbers.as_slice().get(i as usize).copied().unwrap_or(other)
 }
 
-/// The column, or the row, at which subpicture `i` begins.
+/// Returns the column, or the row, at which subpicture `i` begins.
 fn corner_at(corners: &IdList, i: u32) -> u32
     ensures { result ≡ spec.ctu_top_left_at corners.now i }
 {
     if i == 0 { 0 } else { number_at(corners, i - 1) }
 }
 
-/// Its width, or its height, in a picture that ends at this border.
+/// Returns its width, or its height, in a picture that ends at this border.
 fn size_at(sizes: &IdList, border: u32, corner: u32, i: u32) -> u32
     ensures { result ≡ spec.size_at sizes.now border corner i }
 {
@@ -80,7 +80,7 @@ fn size_at(sizes: &IdList, border: u32, corner: u32, i: u32) -> u32
     }
 }
 
-/// How many of a width stand beside one another.
+/// Returns how many of a width fit next to each other.
 fn across(columns: u32, w: u32) -> u32
     ensures count { result ≡ spec.subpic_columns columns w }
     ensures some { 1 ≤ result }
@@ -88,7 +88,7 @@ fn across(columns: u32, w: u32) -> u32
     if w == 0 { 1 } else { (columns / w).max(1) }
 }
 
-/// Rectangle `i` of those that stand on the grid of the first one's size.
+/// Returns rectangle `i` on the grid of the first one's size.
 fn on_grid(columns: u32, first: Rect, i: u32) -> Rect
     ensures { result ≡ spec.on_grid columns first i }
 {
@@ -117,7 +117,7 @@ impl Numbers {
     ghost use Rattle.std.specs.Prelude.{OnOk};
     ghost use Rattle.vx_sps.specs.inner.Kept.{no_numbers, subpicture_numbers};
 
-    /// No numbers.
+    /// Returns no numbers.
     fn new(alloc: Global) -> Numbers
         ensures { result ≡ no_numbers }
     {
@@ -132,7 +132,7 @@ impl Numbers {
         }
     }
 
-    /// Notes those of the items.
+    /// Stores the numbers of the items.
     fn note(&mut self, fields: &Fields) -> Result<(), AllocError>
         requires { self.old ≡ no_numbers }
         ensures { OnOk result (self.new ≡ subpicture_numbers fields.now) }
@@ -151,7 +151,7 @@ impl Numbers {
     }
 }
 
-/// What a set tells of its subpictures. It is seen as the items of the set.
+/// The fields of a set that describe its subpictures. *Model:* the items of the set.
 #[derive(Drop)]
 struct Told<'a> {
     fields: &'a Fields,
@@ -180,7 +180,7 @@ impl<'a> Told<'a> {
     ghost use Rattle.vx_sps.specs.Subpictures as spec;
     ghost use Rattle.vx_sps.specs.inner.Kept.{AreSubpictures, subpicture_of};
 
-    /// The rectangle of subpicture `i`, where it is spelled by itself.
+    /// Returns the rectangle of subpicture `i`, if it is coded on its own.
     fn own_rect(&self, i: u32) -> Rect
         ensures { result ≡ spec.own_rect self.now i }
     {
@@ -193,7 +193,7 @@ impl<'a> Told<'a> {
         }
     }
 
-    /// The rectangle of subpicture `i`.
+    /// Returns the rectangle of subpicture `i`.
     fn rect(&self, i: u32) -> Rect
         ensures { result ≡ spec.rect_of self.now i }
     {
@@ -204,7 +204,7 @@ impl<'a> Told<'a> {
         }
     }
 
-    /// Subpicture `i`.
+    /// Returns subpicture `i`.
     fn subpicture(&self, i: u32) -> Subpicture
         ensures { result ≡ subpicture_of self.now i }
     {
@@ -216,7 +216,7 @@ impl<'a> Told<'a> {
         }
     }
 
-    /// The first `n` subpictures.
+    /// Returns the first `n` subpictures.
     #[tactic(auto, using(crate::proofs::Counted::subpicture_more))]
     fn subpictures(&self, alloc: Global, n: u32) -> Result<CopyList<Subpicture>, AllocError>
         ensures { IfOk result (λ list. AreSubpictures self.now n list) }
@@ -229,7 +229,7 @@ impl<'a> Told<'a> {
     }
 }
 
-/// [`subpictures`], with the numbers that are noted for them.
+/// Returns what [`subpictures`] does, with the numbers that are stored for them.
 fn noted_subpictures(
     alloc: Global,
     fields: &Fields,
@@ -256,7 +256,7 @@ fn noted_subpictures(
     told.subpictures(alloc, scope.latest(sps_num_subpics_minus1) + 1)
 }
 
-/// The subpictures of a set whose numbers the scope has; its pictures have so many columns and rows of CTUs.
+/// Returns the subpictures of a set whose numbers the scope has; its pictures have `columns` times `rows` CTUs.
 pub(crate) fn subpictures(
     alloc: Global,
     fields: &Fields,

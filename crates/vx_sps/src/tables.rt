@@ -1,6 +1,6 @@
 //! The tables of H.266 clause 7.3.2.4 (the sequence parameter set), for the accepted profiles.
 //!
-//! Each has one purpose, and its fields are all taken over by a set rewritten from another, or all replaced.
+//! Each has one purpose. A set rewritten from another copies all fields of a table, or replaces them all.
 use vx_bits::rules::*;
 use vx_fields::names::rpl::*;
 use vx_fields::names::sps::*;
@@ -44,7 +44,7 @@ pub const SIZE: [Row; 8] = table! {
     }
 };
 
-/// The CTUs of the pictures, in which subpictures are measured, and whether these are described.
+/// The CTUs of the pictures, in which subpictures are measured, and whether subpictures are described.
 pub const CTUS: [Row; 10] = table! {
     let CTB_SIZE = (sps_log2_ctu_size_minus5 + 5);
     let CTB_SIZE = (pow2 CTB_SIZE);
@@ -58,7 +58,7 @@ pub const CTUS: [Row; 10] = table! {
     sps_subpic_info_present_flag*;
 };
 
-/// How many subpictures there are, and what they have in common.
+/// The number of subpictures, and what they have in common.
 pub const SUBPICTURES: [Row; 5] = table! {
     sps_num_subpics_minus1*: ue in 0..=999 else Limit(TOO_MANY_SUBPICTURES);
     if sps_num_subpics_minus1 {
@@ -70,7 +70,7 @@ pub const SUBPICTURES: [Row; 5] = table! {
 
 /// The place of a subpicture, in CTUs, and how it is coded.
 ///
-/// The first has no corner and the last no size; the others follow.
+/// The first has no corner and the last no size; they are derived.
 pub const PLACE: [Row; 14] = table! {
     let LIKE_FIRST = (sps_subpic_same_size_flag and SUBPIC);
     if (not LIKE_FIRST) {
@@ -201,7 +201,7 @@ pub const REFERENCES: [Row; 7] = table! {
     let NUM_STRUCTURES = sps_num_ref_pic_lists;
 };
 
-/// The number of list 1's structures, where it has its own.
+/// The number of list 1's structures, if it has its own.
 pub const LIST_1: [Row; 4] = table! {
     let NUM_STRUCTURES = 0;
     if (not sps_rpl1_same_as_rpl0_flag) {
@@ -269,7 +269,7 @@ pub const INTRA: [Row; 21] = table! {
     }
 };
 
-/// Scaling lists, quantization, and what the accepted profiles don't have.
+/// Scaling lists, quantization, and what the accepted profiles don't allow.
 pub const SCALING: [Row; 6] = table! {
     sps_explicit_scaling_list_enabled_flag;
     if (sps_lfnst_enabled_flag and sps_explicit_scaling_list_enabled_flag) {
@@ -306,8 +306,8 @@ pub const END: [Row; 9] = table! {
     trailing sps_rbsp_trailing_bits;
 };
 
-/// The names that the tables of kept fields use, and what a rewritten set has as its source beside these fields: whether there is
-/// timing, and the usability information; and the gap at the end.
+/// The names that the tables of kept fields use, and what a rewritten set copies from its source in addition to these fields:
+/// whether there is timing, the usability information, and the gap at the end.
 pub(crate) const TAKEN_BESIDES: [u16; 21] = [
     EXTRA_BIT,
     NUM_QP_TABLES,

@@ -1,4 +1,4 @@
-//! The fields that a rewritten set has as its source.
+//! The fields that a rewritten set copies from its source.
 ghost use Rattle.std.specs.Prelude.{◌≡◌, ◌++◌, OnOk, IfOk};
 ghost use Rattle.vx_table.specs.Unstarred.{unstarred};
 ghost use Rattle.vx_sps.specs.Structure.{tools};
@@ -9,7 +9,7 @@ use std::alloc::{AllocError, Global};
 use vx_rpl::REF_PIC_LIST_STRUCT;
 use vx_table::{NameList, push_unstarred};
 
-/// Appends the fields without a star of the tools.
+/// Appends the fields of the tools that have no star.
 fn push_tools(names: &mut NameList) -> Result<(), AllocError>
     ensures { OnOk result (names.new ≡ names.old ++ unstarred tools) }
 {
@@ -27,12 +27,13 @@ fn push_tools(names: &mut NameList) -> Result<(), AllocError>
     Ok(())
 }
 
-/// The fields that a rewritten set has as its source, with the names that their tables use: those without a star, which stand in
-/// these tables, and [`TAKEN_BESIDES`].
+/// Returns the fields that a rewritten set copies from its source, with the names that their tables use.
+///
+/// They are those without a star, which are in these tables, and [`TAKEN_BESIDES`].
 ///
 /// # Errors
 ///
-/// Where memory runs out.
+/// `AllocError` if memory runs out.
 pub(crate) fn taken_fields(alloc: Global) -> Result<NameList, AllocError>
     ensures { IfOk result (λ names. names ≡ taken_sps_fields) }
 {

@@ -12,11 +12,11 @@ use vx_ptl::{DPB, NO_TIMING, PTL, SUBLAYER_TIMING, TIMING};
 use vx_rpl::REF_PIC_LIST_STRUCT;
 use vx_table::{Coder, Scope, code_parts, parts};
 
-/// Codes a sequence parameter set, `seq_parameter_set_rbsp()`, clause 7.3.2.4.
+/// Codes a sequence parameter set, `seq_parameter_set_rbsp()` (clause 7.3.2.4).
 ///
 /// # Errors
 ///
-/// The coder's, at the first field that it refuses.
+/// The coder's error at the first field that it refuses.
 pub fn code_sps<I, C: Coder<I>>(
     scope: &mut Scope,
     coder: &mut C,
