@@ -3,7 +3,7 @@
 use vx_bits::Fields;
 use vx_rpl::RefLists;
 
-/// A picture header: its fields, and the reference picture lists that they come to, both empty where it has none.
+/// A picture header: its fields, and the reference picture lists that they determine, both empty if it has none.
 #[derive(Drop)]
 pub struct PictureHeader {
     /// Its items, in the order of the bits.

@@ -1,4 +1,4 @@
-//! Laws of picture headers: functions that do nothing, each with a law as its contract.
+//! Laws of picture headers. A law is a function without a body whose contract states it.
 ghost use Rattle.vx_ph.specs.Depends.{KeptDepend, AllDepend, KeepsKept, ShowsAll, FieldsAreCodedOnce, HeaderReadAgain, HeaderRewrites};
 ghost use Rattle.vx_ph.specs.laws.Enabled.{NoLmcs, NoScaling, NoChromaScaling, NoFilter};
 ghost use Rattle.vx_ph.specs.Filter.{FilterGoesAgain, FilterNamesOnce, HeaderHasFilter};
@@ -8,13 +8,13 @@ ghost use Rattle.vx_ph.specs.Picture.{UnitIsRead};
 ghost use Rattle.vx_ph.specs.Reshaped.{SameKeptAgree};
 ghost use Rattle.vx_ph.specs.laws.Sizes.{SetsAreBounded, SpellingIsShort};
 
-/// Sets that give some fields the same numbers give scopes that agree on these.
+/// If sets give some fields the same numbers, then their scopes agree on these.
 pub fn sets_agree()
     ensures { SetsAgree }
 {}
 
-/// Whatever structures the SPS has, the kept fields of a header depend on kept fields of the sets and of the header alone; all its
-/// fields besides on two fields of the PPS.
+/// If a field of a header is kept, then it depends only on kept fields of the sets and of the header, for any structures of the
+/// SPS; all its fields depend in addition on two fields of the PPS.
 pub fn header_depends()
     ensures kept { KeptDepend }
     ensures all { AllDepend }
@@ -25,55 +25,57 @@ pub fn fields_are_coded_once()
     ensures { FieldsAreCodedOnce }
 {}
 
-/// A header keeps exactly the kept fields, and all that it has is named.
+/// If a field of a header is kept, then it is one of the kept fields, and the other way round; and all fields that it has are
+/// named.
 pub fn header_keeps()
     ensures kept { KeepsKept }
     ensures all { ShowsAll }
 {}
 
-/// The same bits under sets that agree on what a header depends on are the same header or the same refusal.
+/// If the same bits are read under sets that agree on what a header depends on, then they are the same header or the same
+/// refusal.
 pub fn header_read_again()
     ensures { HeaderReadAgain }
 {}
 
-/// A header goes again under other sets that keep what kept fields depend on, with its kept fields, another id of the PPS, and other
-/// LMCS and scaling lists.
+/// If other sets keep what kept fields depend on, then a header can be rewritten under them, with its kept fields, another id of
+/// the PPS, and other LMCS and scaling lists.
 pub fn header_rewrites()
     ensures { HeaderRewrites }
 {}
 
-/// The id that stands in the bits is that of each header that they begin with, whatever the sets.
+/// If bits begin with a header, then the id in the bits is its id, for any sets.
 pub fn header_has_id()
     ensures { HeaderHasId }
 {}
 
-/// Sets with the same kept fields are the same for headers.
+/// If sets have the same kept fields, then they are the same for headers.
 pub fn same_kept_agree()
     ensures { SameKeptAgree }
 {}
 
-/// What is written of a unit is read as its header.
+/// If a unit is written, then it is read as its header.
 pub fn unit_is_read()
     ensures { UnitIsRead }
 {}
 
-/// A filter goes through again with other ids of its sets; that of a picture header goes through.
+/// If a filter goes through, then it does so again with other ids of its sets; and that of a picture header goes through.
 pub fn filter_goes_again()
     ensures again { FilterGoesAgain }
     ensures header { HeaderHasFilter }
 {}
 
-/// A filter names one set at most for chroma, one for Cb and one for Cr.
+/// If a filter is given, then it names at most one set for chroma, one for Cb and one for Cr.
 pub fn filter_names_once()
     ensures { FilterNamesOnce }
 {}
 
-/// A reader of the id answers that of a unit's header, whatever the sets.
+/// If a unit has a header, then a reader of the id returns the header's, for any sets.
 pub fn unit_has_id()
     ensures { UnitHasId }
 {}
 
-/// Where the SPS doesn't enable LMCS, scaling lists, chroma or the filter, a header has none of it.
+/// If the SPS doesn't enable LMCS, scaling lists, chroma or the filter, then a header has none of it.
 pub fn header_is_enabled()
     ensures lmcs { NoLmcs }
     ensures scaling { NoScaling }
@@ -81,7 +83,7 @@ pub fn header_is_enabled()
     ensures filter { NoFilter }
 {}
 
-/// A unit of a picture header has 2^17 bytes at most, under sets that ask for 32 extra bits at most.
+/// If the sets have at most 32 extra bits, then a unit of a picture header has at most 2^17 bytes.
 pub fn spelling_is_short()
     ensures short { SpellingIsShort }
     ensures sets { SetsAreBounded }

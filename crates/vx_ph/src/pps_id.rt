@@ -1,4 +1,4 @@
-//! The id of the PPS that a picture header refers to.
+//! The id of the PPS to which a picture header refers.
 ghost use Rattle.std.specs.Prelude.{◌≡◌, IfOk, OnOk};
 ghost use Rattle.vx_table.specs.Parts.{sections_form};
 ghost use Rattle.vx_table.specs.Reading.{LeadsTo, PassesOver, Reads};
@@ -9,7 +9,7 @@ use vx_bits::{BitReader, Fields, ReadError, Refusal};
 use vx_fields::ph::ph_pic_parameter_set_id;
 use vx_table::Scope;
 
-/// Takes the fields up to the id of the PPS, and gives the scope their numbers.
+/// Takes the fields up to the id of the PPS, and sets their numbers in the scope.
 fn pass_to_id(scope: &mut Scope, bits: &mut BitReader<'_>) -> Result<(), Refusal>
     ensures answer { PassesOver (sections_form to_id scope.old) bits.old result bits.new }
     ensures scope { OnOk result (LeadsTo (sections_form to_id scope.old) bits.old scope.new) }
@@ -17,12 +17,13 @@ fn pass_to_id(scope: &mut Scope, bits: &mut BitReader<'_>) -> Result<(), Refusal
     code_to_id(scope, bits, &mut ())
 }
 
-/// The id of the PPS, from 0 to 63, in the picture header that comes next; the bits up to it are taken. So it is known which sets
-/// the header is to be read with. Takes no memory.
+/// Returns the id of the PPS, 0 to 63, in the picture header that comes next. Takes the bits up to it, and no memory.
+///
+/// The id determines the sets with which the header is to be read.
 ///
 /// # Errors
 ///
-/// The first refusal among these fields; `bits` then stands at its field.
+/// The first refusal among these fields. `bits` is then at its field.
 pub fn read_pps_id(bits: &mut BitReader<'_>) -> Result<u8, Refusal>
     ensures answer { PassesOver pps_id_form bits.old result bits.new }
     ensures id { IfOk result (λ id. IsId bits.old id) }
@@ -32,12 +33,14 @@ pub fn read_pps_id(bits: &mut BitReader<'_>) -> Result<u8, Refusal>
     Ok(scope.latest(ph_pic_parameter_set_id) as u8)
 }
 
-/// Reads the fields of the picture header that comes next up to the id of the PPS, and appends their items.
+/// Reads the fields of the picture header that comes next, up to the id of the PPS, and appends their items.
 ///
 /// # Errors
 ///
-/// The first refusal, or want of memory. `into` has then gained the fields read before, and `bits` stands at the field that comes
-/// next.
+/// - `Refused` with the first refusal.
+/// - `Memory` if memory runs out.
+///
+/// After an error, `into` has gained the fields read before, and `bits` is at the next field.
 pub fn read_pps_id_fields(bits: &mut BitReader<'_>, into: &mut Fields) -> Result<(), ReadError>
     ensures { Reads pps_id_form bits.old into.old result bits.new into.new }
 {

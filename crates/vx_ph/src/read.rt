@@ -1,4 +1,4 @@
-//! Reading a picture header.
+//! Reading of a picture header.
 ghost use Rattle.std.specs.Prelude.{◌≡◌, IfOk};
 ghost use Rattle.vx_table.specs.Reading.{Reads};
 ghost use Rattle.vx_ph.specs.Header.{header_form};
@@ -23,12 +23,14 @@ pub(crate) fn read_fields(
     code_header(table, &mut scope, bits, into)
 }
 
-/// Reads a picture header, `picture_header_structure()`, clause 7.3.2.8, with the SPS's structures of lists, at the scope of the
-/// sets in force ([`both_sets`](crate::both_sets)). What ends a unit is left.
+/// Reads a picture header, `picture_header_structure()` (clause 7.3.2.8), at the scope of the sets in force.
+///
+/// `table` has the SPS's list structures, and `scope` is that of [`both_sets`](crate::both_sets). The end of a unit isn't read.
 ///
 /// # Errors
 ///
-/// The first refusal, and `bits` then stands at its field; want of memory.
+/// - `Refused` with the first refusal. `bits` is then at its field.
+/// - `Memory` if memory runs out.
 pub fn read_header_at(
     alloc: Global,
     bits: &mut BitReader<'_>,

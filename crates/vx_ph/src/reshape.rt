@@ -1,4 +1,4 @@
-//! The picture header that is sent for a frame of several sources, put together of a source's fields and stated ones.
+//! The picture header that is sent for a frame of several sources, made of fields of a source and new ones.
 ghost use Rattle.std.specs.Prelude.{◌≡◌, [], ◌++◌, OnOk, IfOk};
 ghost use Rattle.vx_ph.specs.declared.tables.TheConstants as tables;
 ghost use Rattle.vx_ph.specs.Header.{header_form};
@@ -26,7 +26,7 @@ use vx_rpl::{RplTable, resolve_lists};
 use vx_sps::Sps;
 use vx_table::{Rewriter, Scope, SpellError, Unwritten, item, only_memory, others_of, push_where};
 
-/// Luma mapping with chroma scaling.
+/// Appends luma mapping with chroma scaling.
 fn push_lmcs(chroma: u32, lmcs: Option<LmcsShape>, into: &mut Fields) -> Result<(), AllocError>
     ensures { OnOk result (into.new ≡ into.old ++ lmcs_said chroma lmcs) }
 {
@@ -41,7 +41,7 @@ fn push_lmcs(chroma: u32, lmcs: Option<LmcsShape>, into: &mut Fields) -> Result<
     push_where(chroma != 0, scales, into)
 }
 
-/// Scaling lists.
+/// Appends scaling lists.
 fn push_scaling(scaling: Option<u8>, into: &mut Fields) -> Result<(), AllocError>
     ensures { OnOk result (into.new ≡ into.old ++ scaling_said scaling) }
 {
@@ -54,7 +54,7 @@ fn push_scaling(scaling: Option<u8>, into: &mut Fields) -> Result<(), AllocError
     ])
 }
 
-/// Both, each where the SPS has it.
+/// Appends both, each if the SPS has it.
 fn push_maps(sps: &Sps, shape: &PhShape, into: &mut Fields) -> Result<(), AllocError>
     ensures { OnOk result (into.new ≡ into.old ++ map_items sps.now shape.now) }
 {
@@ -67,7 +67,7 @@ fn push_maps(sps: &Sps, shape: &PhShape, into: &mut Fields) -> Result<(), AllocE
     Ok(())
 }
 
-/// All that is stated, in order.
+/// Returns all new items, in order.
 fn stated_items(alloc: Global, sps: &Sps, shape: &PhShape) -> Result<Fields, AllocError>
     ensures { IfOk result (λ items. items ≡ stated_ph_items sps.now shape.now) }
 {
@@ -81,7 +81,8 @@ fn stated_items(alloc: Global, sps: &Sps, shape: &PhShape) -> Result<Fields, All
 ///
 /// # Errors
 ///
-/// `NoValue` where there is none; want of memory.
+/// - `NoValue` if there is none.
+/// - `Memory` if memory runs out.
 fn put_together(
     stated: &Fields,
     kept: &Fields,
@@ -100,7 +101,7 @@ fn put_together(
     code_header(table, &mut scope, &mut rewriter, into)
 }
 
-/// The items of the header.
+/// Returns the items of the header.
 fn reshaped_items(
     alloc: Global,
     source: &PictureHeader,
@@ -121,12 +122,15 @@ fn reshaped_items(
     }
 }
 
-/// The picture header that says what `shape` says, and all else as its source: its kept fields are the source's. It is one under `sps`
-/// and `pps`, whose kept fields are those of the sets under which the source was read.
+/// Returns the picture header that has what `shape` states, and everything else from `source`.
+///
+/// Its kept fields are the source's. The PPS is stated, and LMCS and scaling lists if the SPS has them; the header has neither
+/// filter nor QP. Requires that `shape` is valid, that `sps` and `pps` have the kept fields of the sets under which `source` was
+/// read, and that `pps` has the filter and the QP in slice headers.
 ///
 /// # Errors
 ///
-/// Where memory runs out.
+/// `AllocError` if memory runs out.
 pub fn reshape_ph(
     alloc: Global,
     source: &PictureHeader,

@@ -8,8 +8,9 @@ use vx_pps::Pps;
 use vx_sps::Sps;
 use vx_table::Scope;
 
-/// The scope that headers are read and written at, from that of the SPS, that of the PPS, and the number of extra bits of
-/// a picture header: two copies, whatever the sets have.
+/// Returns the scope at which headers are read and written, from those of the SPS and the PPS.
+///
+/// `extra_ph_bits` is the number of extra bits of a picture header. Makes two copies, whatever the sets have.
 #[tactic(auto, unfolding(crate::specs::InForce::both_sets))]
 pub fn both_sets(sps: &Scope, pps: &Scope, extra_ph_bits: u32) -> Scope
     ensures { result ≡ both_sets sps.now pps.now extra_ph_bits }
@@ -20,7 +21,7 @@ pub fn both_sets(sps: &Scope, pps: &Scope, extra_ph_bits: u32) -> Scope
     scope
 }
 
-/// The scope of the sets in force, which headers are read and written at.
+/// Returns the scope of the sets in force, at which headers are read and written.
 #[tactic(auto, unfolding(crate::specs::InForce::in_force))]
 pub fn in_force(sps: &Sps, pps: &Pps) -> Scope
     ensures { result ≡ in_force sps.now pps.now }

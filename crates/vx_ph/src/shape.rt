@@ -1,6 +1,6 @@
-//! What a rewritten picture header is to say.
+//! The shape of a rewritten picture header.
 
-/// Luma mapping with chroma scaling, where a picture header has it on.
+/// The LMCS fields of a picture header that has luma mapping with chroma scaling on.
 #[derive(Clone, Copy)]
 pub struct LmcsShape {
     /// The id of its set.
@@ -9,13 +9,13 @@ pub struct LmcsShape {
     pub scales_chroma: bool,
 }
 
-/// What a picture header is to say that is sent for a frame of several sources, beside what it takes over from one of them.
+/// A description of the picture header that is sent for a frame of several sources: what isn't copied from one of them.
 #[derive(Clone, Copy)]
 pub struct PhShape {
     /// The id of its PPS.
     pub pps_id: u8,
-    /// Luma mapping with chroma scaling, where it is on.
+    /// Luma mapping with chroma scaling, if it is on.
     pub lmcs: Option<LmcsShape>,
-    /// The id of the set of its scaling lists, where these are on.
+    /// The id of the set of its scaling lists, if these are on.
     pub scaling: Option<u8>,
 }

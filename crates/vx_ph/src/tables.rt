@@ -1,10 +1,10 @@
 //! The tables of H.266 clause 7.3.2.8 (picture header), and of the adaptive loop filter in both headers.
 //!
-//! Fields with a star that a merged stream states anew stand in tables of their own: the id of the PPS, the filter, LMCS and
-//! scaling lists, and the QP.
+//! Fields with a star that a merged stream replaces are in tables of their own: the id of the PPS, the filter, LMCS and scaling
+//! lists, and the QP.
 //!
-//! Tables that are walked over by type have their text in a macro: `table!` makes the array of it, which is what definitions name,
-//! and `rows!` the rows by type.
+//! Tables that are walked over as types have their text in a macro. `table!` makes the array of it, which definitions name, and
+//! `rows!` the rows as a type.
 use vx_fields::alf::*;
 use vx_fields::names::ph::*;
 use vx_fields::names::rpl::{ACTIVE_0, ACTIVE_1, ENTRIES_0, ENTRIES_1};
@@ -37,7 +37,7 @@ macro_rules! picture_syntax {
         if ph_inter_slice_allowed_flag { ph_intra_slice_allowed_flag; }
     } };
 }
-/// What the picture is.
+/// The kind of the picture.
 pub const PICTURE: [Row; 9] = picture_syntax!(table);
 
 macro_rules! pps_id_syntax {
@@ -45,7 +45,7 @@ macro_rules! pps_id_syntax {
         ph_pic_parameter_set_id*: ue in 0..=63;
     } };
 }
-/// Which PPS it refers to.
+/// The PPS to which it refers.
 pub const PPS_ID: [Row; 1] = pps_id_syntax!(table);
 
 macro_rules! order_count_syntax {
@@ -61,7 +61,7 @@ macro_rules! order_count_syntax {
 /// Its picture order count, and the extra bits.
 pub const ORDER_COUNT: [Row; 10] = order_count_syntax!(table);
 
-/// The text of [`ALF`], for `table!` and `rows!`. Where it is called these are in scope: the macro that it is for, all of
+/// The text of [`ALF`], for `table!` and `rows!`. Where it is called, these must be in scope: the macro for which it is, all of
 /// `vx_fields::alf`, `FILTER_SET`, `sps_chroma_format_idc` and `sps_ccalf_enabled_flag`.
 #[macro_export]
 macro_rules! alf_syntax {
@@ -114,7 +114,7 @@ macro_rules! output_syntax {
         let ENTRIES_1 = 0;
     } };
 }
-/// Whether the picture is shown; behind it come the reference picture lists, where the header has them.
+/// Whether the picture is shown. After it come the reference picture lists, if the header has them.
 pub const OUTPUT: [Row; 6] = output_syntax!(table);
 
 macro_rules! intra_syntax {
@@ -190,7 +190,7 @@ macro_rules! inter_syntax {
         }
     } };
 }
-/// Partitions and motion of inter slices; behind it come prediction weights, where the header has them.
+/// Partitions and motion of inter slices. After it come prediction weights, if the header has them.
 pub const INTER: [Row; 40] = inter_syntax!(table);
 
 macro_rules! qp_syntax {
@@ -230,14 +230,14 @@ macro_rules! filters_syntax {
         }
     } };
 }
-/// Chroma residuals, filters within the loop, and the extension.
+/// Chroma residuals, in-loop filters, and the extension.
 pub const FILTERS: [Row; 25] = filters_syntax!(table);
 
-/// What ends a picture header that is a unit of its own (clause 7.3.2.7).
+/// The end of a picture header that is a unit of its own (clause 7.3.2.7).
 pub const TRAILING: [Row; 1] = table! { trailing ph_rbsp_trailing_bits; };
 
-/// The fields with a star, each of which a merged stream states anew: the id of the PPS, the filter, LMCS and scaling lists, and
-/// the QP.
+/// The fields with a star, each of which a merged stream replaces: the id of the PPS, the filter, LMCS and scaling lists, and the
+/// QP.
 pub const STARRED: [u16; 17] = [
     ph_pic_parameter_set_id,
     alf_enabled_flag,

@@ -17,11 +17,12 @@ use vx_bits::{BitReader, BitWriter, Fields, ReadError};
 use vx_pps::Pps;
 use vx_sps::Sps;
 
-/// Reads a picture header, `picture_header_structure()`, clause 7.3.2.8. What ends a unit is left.
+/// Reads a picture header, `picture_header_structure()` (clause 7.3.2.8). The end of a unit isn't read.
 ///
 /// # Errors
 ///
-/// The first refusal, and `bits` then stands at its field; want of memory.
+/// - `Refused` with the first refusal. `bits` is then at its field.
+/// - `Memory` if memory runs out.
 pub fn read_ph(
     alloc: Global,
     bits: &mut BitReader<'_>,
@@ -34,12 +35,14 @@ pub fn read_ph(
     read_header_at(alloc, bits, sps.table(), &in_force(sps, pps))
 }
 
-/// Reads the RBSP of a picture header that is a unit of its own, `picture_header_rbsp()`, clause 7.3.2.7: at most 2^23 bytes, with the
-/// trailing that ends them.
+/// Reads the RBSP of a picture header unit, `picture_header_rbsp()` (clause 7.3.2.7), with its trailing bits.
+///
+/// The RBSP has at most 2^23 bytes.
 ///
 /// # Errors
 ///
-/// The first refusal, of the trailing too; want of memory.
+/// - `Refused` with the first refusal, also of the trailing bits.
+/// - `Memory` if memory runs out.
 pub fn read_ph_unit(
     alloc: Global,
     rbsp: &[u8],
@@ -53,12 +56,14 @@ pub fn read_ph_unit(
     read_unit_at(alloc, rbsp, sps.table(), &in_force(sps, pps))
 }
 
-/// Reads the fields of a picture header, `picture_header_structure()`, clause 7.3.2.8, and appends their items.
+/// Reads the fields of a picture header, `picture_header_structure()` (clause 7.3.2.8), and appends their items.
 ///
 /// # Errors
 ///
-/// The first refusal, or want of memory. `into` has then gained the fields read before, and `bits` stands at the field that comes
-/// next.
+/// - `Refused` with the first refusal.
+/// - `Memory` if memory runs out.
+///
+/// After an error, `into` has gained the fields read before, and `bits` is at the next field.
 pub fn read_ph_fields(
     bits: &mut BitReader<'_>,
     sps: &Sps,
@@ -70,12 +75,16 @@ pub fn read_ph_fields(
     read_fields(bits, sps.table(), in_force(sps, pps), into)
 }
 
-/// Reads the fields of a picture header that is a unit of its own, `picture_header_rbsp()`, clause 7.3.2.7, from an RBSP of at most
-/// 2^23 bytes, and appends their items.
+/// Reads the fields of a picture header unit, `picture_header_rbsp()` (clause 7.3.2.7), and appends their items.
+///
+/// The RBSP has at most 2^23 bytes.
 ///
 /// # Errors
 ///
-/// The first refusal, of the trailing too, or want of memory. `into` has then gained the fields read before.
+/// - `Refused` with the first refusal, also of the trailing bits.
+/// - `Memory` if memory runs out.
+///
+/// After an error, `into` has gained the fields read before.
 pub fn read_ph_unit_fields(
     rbsp: &[u8],
     sps: &Sps,
@@ -90,11 +99,11 @@ pub fn read_ph_unit_fields(
     read_unit(&mut bits, sps.table(), in_force(sps, pps), into)
 }
 
-/// Writes a picture header without a trailing.
+/// Writes a picture header without trailing bits (clause 7.3.2.8).
 ///
 /// # Errors
 ///
-/// Want of memory; `bits` has then gained a front of the spelling.
+/// `AllocError` if memory runs out. `bits` has then gained a prefix of the header's bits.
 pub fn write_header(
     bits: &mut BitWriter,
     header: &PictureHeader,
@@ -108,7 +117,11 @@ pub fn write_header(
     write_header_at(bits, header, sps.table(), &in_force(sps, pps))
 }
 
-/// The RBSP of a picture header, `picture_header_rbsp()`, clause 7.3.2.7.
+/// Returns the RBSP of a picture header unit, `picture_header_rbsp()` (clause 7.3.2.7).
+///
+/// # Errors
+///
+/// `AllocError` if memory runs out.
 pub fn write_ph(
     alloc: Global,
     header: &PictureHeader,

@@ -1,4 +1,4 @@
-//! Reading a picture header that is a unit of its own.
+//! Reading of a picture header that is a unit of its own.
 ghost use Rattle.std.specs.Prelude.{◌≡◌, ◌≤◌, length, IfOk};
 ghost use Rattle.vx_bits.specs.Limits.{unit_limit};
 ghost use Rattle.vx_table.specs.Reading.{Reads};
@@ -11,7 +11,7 @@ use vx_bits::{BitReader, Fields, ReadError};
 use vx_rpl::{RplTable, resolve_lists};
 use vx_table::Scope;
 
-/// Reads the fields of a header, and the trailing.
+/// Reads the fields of a header, and the trailing bits.
 pub(crate) fn read_unit(
     bits: &mut BitReader<'_>,
     table: &RplTable,
@@ -23,12 +23,14 @@ pub(crate) fn read_unit(
     code_unit(table, &mut scope, bits, into)
 }
 
-/// Reads the RBSP of a picture header, `picture_header_rbsp()`, clause 7.3.2.7, with the SPS's structures of lists, at the scope of
-/// the sets in force.
+/// Reads the RBSP of a picture header unit, `picture_header_rbsp()` (clause 7.3.2.7), at the scope of the sets in force.
+///
+/// `table` has the SPS's list structures.
 ///
 /// # Errors
 ///
-/// The first refusal; want of memory.
+/// - `Refused` with the first refusal.
+/// - `Memory` if memory runs out.
 pub fn read_unit_at(
     alloc: Global,
     rbsp: &[u8],

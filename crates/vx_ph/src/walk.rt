@@ -21,7 +21,7 @@ use vx_rpl::{RplTable, code_lists, code_weights};
 use vx_table::by_type::ALWAYS;
 use vx_table::{Coder, Scope, code_section, code_table, formula, rows};
 
-/// Codes what stands up to the id of the PPS.
+/// Codes the fields up to the id of the PPS.
 pub(crate) fn code_to_id<I, C: Coder<I>>(
     scope: &mut Scope,
     coder: &mut C,
@@ -34,7 +34,7 @@ pub(crate) fn code_to_id<I, C: Coder<I>>(
     Ok(())
 }
 
-/// Codes what stands before the reference picture lists.
+/// Codes the fields before the reference picture lists.
 fn code_front<I, C: Coder<I>>(
     scope: &mut Scope,
     coder: &mut C,
@@ -63,7 +63,7 @@ fn code_front<I, C: Coder<I>>(
     Ok(())
 }
 
-/// Codes the reference picture lists, where the header has them.
+/// Codes the reference picture lists, if the header has them.
 #[tactic(auto, unfolding(vx_table::specs::Forms::present, vx_table::specs::Scope::value))]
 fn code_lists_if_present<I, C: Coder<I>>(
     table: &RplTable,
@@ -79,7 +79,7 @@ fn code_lists_if_present<I, C: Coder<I>>(
     code_lists(table, scope, coder, items)
 }
 
-/// Codes what stands between the lists and prediction weights.
+/// Codes the fields between the lists and prediction weights.
 fn code_middle<I, C: Coder<I>>(
     scope: &mut Scope,
     coder: &mut C,
@@ -92,7 +92,7 @@ fn code_middle<I, C: Coder<I>>(
     Ok(())
 }
 
-/// Codes prediction weights, where the header has them.
+/// Codes prediction weights, if the header has them.
 #[tactic(auto, unfolding(vx_table::specs::Forms::present, vx_table::specs::Scope::value))]
 fn code_weights_if_present<I, C: Coder<I>>(
     scope: &mut Scope,
@@ -107,7 +107,7 @@ fn code_weights_if_present<I, C: Coder<I>>(
     code_weights(scope, coder, items)
 }
 
-/// Codes what stands behind prediction weights.
+/// Codes the fields after prediction weights.
 fn code_back<I, C: Coder<I>>(
     scope: &mut Scope,
     coder: &mut C,
@@ -120,7 +120,7 @@ fn code_back<I, C: Coder<I>>(
     Ok(())
 }
 
-/// Codes what stands before prediction weights.
+/// Codes the fields before prediction weights.
 #[tactic(auto, unfolding(crate::specs::Header::ph_before_weights), using(vx_table::proofs::Steps::then, vx_table::proofs::Steps::stop))]
 fn code_before_weights<I, C: Coder<I>>(
     table: &RplTable,
@@ -135,12 +135,13 @@ fn code_before_weights<I, C: Coder<I>>(
     code_middle(scope, coder, items)
 }
 
-/// Codes a picture header, `picture_header_structure()`, clause 7.3.2.8, without a trailing. The scope has the numbers of
-/// the sets in force, and the table is the SPS's.
+/// Codes a picture header, `picture_header_structure()` (clause 7.3.2.8), without trailing bits.
+///
+/// The scope has the numbers of the sets in force, and `table` is the SPS's.
 ///
 /// # Errors
 ///
-/// The coder's, at the first field that it refuses.
+/// The coder's error at the first field that it refuses.
 #[tactic(auto, unfolding(crate::specs::Header::header_form), using(vx_table::proofs::Steps::then, vx_table::proofs::Steps::stop))]
 pub fn code_header<I, C: Coder<I>>(
     table: &RplTable,
@@ -155,7 +156,7 @@ pub fn code_header<I, C: Coder<I>>(
     code_back(scope, coder, items)
 }
 
-/// Codes a picture header that is a unit of its own, `picture_header_rbsp()`, clause 7.3.2.7.
+/// Codes a picture header that is a unit of its own, `picture_header_rbsp()` (clause 7.3.2.7).
 #[tactic(auto, unfolding(crate::specs::Picture::unit_form), using(vx_table::proofs::Steps::then, vx_table::proofs::Steps::stop))]
 pub(crate) fn code_unit<I, C: Coder<I>>(
     table: &RplTable,

@@ -1,4 +1,4 @@
-//! Writing a picture header.
+//! Writing of a picture header.
 ghost use Rattle.std.specs.Prelude.{◌≡◌, [], ◌++◌, IfOk, OnOk, OnErr};
 ghost use Rattle.vx_table.specs.Writing.{Writes};
 ghost use Rattle.vx_ph.specs.Header.{header_form};
@@ -23,11 +23,13 @@ fn write_fields(
     code_header(table, &mut scope, bits, items)
 }
 
-/// Writes a picture header without a trailing, with the SPS's structures of lists, at the scope of the sets in force.
+/// Writes a picture header without trailing bits (clause 7.3.2.8), at the scope of the sets in force.
+///
+/// `table` has the SPS's list structures.
 ///
 /// # Errors
 ///
-/// Want of memory; `bits` has then gained a front of the spelling.
+/// `AllocError` if memory runs out. `bits` has then gained a prefix of the header's bits.
 pub fn write_header_at(
     bits: &mut BitWriter,
     header: &PictureHeader,
@@ -58,7 +60,13 @@ fn write_unit(
     code_unit(table, &mut scope, bits, items)
 }
 
-/// The RBSP of a picture header, clause 7.3.2.7, with the SPS's structures of lists, at the scope of the sets in force.
+/// Returns the RBSP of a picture header unit (clause 7.3.2.7), at the scope of the sets in force.
+///
+/// `table` has the SPS's list structures.
+///
+/// # Errors
+///
+/// `AllocError` if memory runs out.
 pub fn write_unit_at(
     alloc: Global,
     header: &PictureHeader,

@@ -1,4 +1,4 @@
-//! What a slice header is read and written at.
+//! The numbers under which a slice header is read and written.
 ghost use Rattle.std.specs.Prelude.{◌≡◌, ◌≤◌, length};
 
 use vx_bits::IdList;
@@ -6,10 +6,10 @@ use vx_layout::Layout;
 use vx_rpl::RplTable;
 use vx_table::Scope;
 
-/// What a slice header reads beside its scope, which has the numbers of the sets and of the picture header in force.
+/// The input of a slice header besides its scope, which has the numbers of the sets and of the picture header in force.
 #[derive(Clone, Copy)]
 pub(crate) struct Context<'a> {
-    /// The numbers of the SPS and the PPS, at which a picture header inside is read.
+    /// The numbers of the SPS and the PPS, under which a picture header inside is read.
     pub sets: &'a Scope,
     /// The SPS's structures of reference picture lists.
     pub table: &'a RplTable,

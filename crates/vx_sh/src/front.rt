@@ -18,7 +18,7 @@ use vx_layout::Layout;
 use vx_ph::code_header;
 use vx_table::{Coder, Rows, Scope, rows};
 
-/// The slices of a subpicture, of so many.
+/// Returns the number of slices of a subpicture, out of `subpics`.
 fn slices_at(layout: &Layout, subpics: u32, subpic: u32) -> u32
     requires { subpics ≡ length layout.now.subpics }
     ensures { result ≡ whole.num_slices_in_subpic layout.now subpic }
@@ -58,7 +58,7 @@ impl<'a> EntryPoints for SubpicPoints<'a> {
     }
 }
 
-/// The place of an id among the ids of the subpictures; past the last one where it is none of them.
+/// Returns the place of an id among the ids of the subpictures, or the place after the last one if it is none of them.
 pub(crate) fn index_of(id: u32, ids: &IdList) -> u32
     requires { length ids.now ≤ 1000 }
     ensures { result ≡ whole.index_of id ids.now }
@@ -75,7 +75,7 @@ pub(crate) fn index_of(id: u32, ids: &IdList) -> u32
     index
 }
 
-/// Tells the scope which subpicture has the id, and how many slices that has.
+/// Sets in the scope which subpicture has the id, and how many slices it has.
 #[tactic(auto, unfolding(crate::specs::Whole::located))]
 fn locate(n: &Context<'_>, scope: &mut Scope)
     ensures { scope.new ≡ located n.now.ids.now n.now.layout.now scope.old }
@@ -102,7 +102,7 @@ fn code_id<I, C: Coder<I>>(
     Ok(())
 }
 
-/// Codes the id of the subpicture, which is refused where no subpicture has it.
+/// Codes the id of the subpicture, which is refused if no subpicture has it.
 #[tactic(auto, unfolding(crate::specs::Whole::subpic_form), using(vx_table::proofs::Steps::then, vx_table::proofs::Steps::stop))]
 fn code_subpic<I, C: Coder<I>>(
     n: &Context<'_>,
@@ -117,7 +117,7 @@ fn code_subpic<I, C: Coder<I>>(
     known.code(scope, coder, items)
 }
 
-/// Codes what stands behind the id of the subpicture.
+/// Codes the fields after the id of the subpicture.
 fn code_there<I, C: Coder<I>>(
     n: &Context<'_>,
     scope: &mut Scope,
@@ -136,7 +136,7 @@ fn code_there<I, C: Coder<I>>(
     code_rest(n.table, &points, scope, coder, items)
 }
 
-/// Codes what stands behind the picture header.
+/// Codes the fields after the picture header.
 #[tactic(auto, unfolding(crate::specs::Whole::behind_header), using(vx_table::proofs::Steps::then, vx_table::proofs::Steps::stop))]
 pub(crate) fn code_behind<I, C: Coder<I>>(
     n: &Context<'_>,
@@ -150,7 +150,7 @@ pub(crate) fn code_behind<I, C: Coder<I>>(
     code_there(n, scope, coder, items)
 }
 
-/// Codes whether the picture header stands inside.
+/// Codes whether the picture header is inside.
 pub(crate) fn code_header_inside<I, C: Coder<I>>(
     scope: &mut Scope,
     coder: &mut C,
@@ -162,7 +162,7 @@ pub(crate) fn code_header_inside<I, C: Coder<I>>(
     first.code(scope, coder, items)
 }
 
-/// Codes a slice header whose picture header stands apart.
+/// Codes a slice header whose picture header is a unit of its own.
 #[tactic(auto, unfolding(crate::specs::Whole::apart_form), using(vx_table::proofs::Steps::then, vx_table::proofs::Steps::stop))]
 pub(crate) fn code_apart<I, C: Coder<I>>(
     n: &Context<'_>,
@@ -176,7 +176,7 @@ pub(crate) fn code_apart<I, C: Coder<I>>(
     code_behind(n, scope, coder, items)
 }
 
-/// Codes the picture header, where it stands inside.
+/// Codes the picture header, if it is inside.
 pub(crate) fn code_inside<I, C: Coder<I>>(
     n: &Context<'_>,
     scope: &Scope,

@@ -3,17 +3,17 @@
 use vx_bits::Fields;
 use vx_rpl::RefLists;
 
-/// A slice header.
+/// A slice header: its fields, its place in the picture, and its reference picture lists.
 #[derive(Drop)]
 pub struct SliceHeader {
-    /// Whether the picture header stands inside.
+    /// Whether the picture header is inside.
     pub inside: bool,
     /// Its own items, in the order of the bits.
     pub fields: Fields,
     /// The index of its subpicture.
     pub subpic: u32,
-    /// The place of the slice in the subpicture.
+    /// The address of the slice in the subpicture.
     pub address: u32,
-    /// The reference picture lists that its items come to, both empty where it has none.
+    /// The reference picture lists that its items determine, both empty if it has none.
     pub lists: RefLists,
 }

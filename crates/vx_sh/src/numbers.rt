@@ -1,4 +1,4 @@
-//! Slice headers by the sets, the picture header and the layout in force.
+//! Slice headers under the sets, the picture header and the layout in force.
 ghost use Rattle.std.specs.Prelude.{◌≡◌, ◌≤◌, length, IfOk};
 ghost use Rattle.vx_bits.specs.Place.{Place};
 ghost use Rattle.vx_bits.specs.Limits.{unit_limit};
@@ -24,7 +24,7 @@ use vx_pps::Pps;
 use vx_sps::Sps;
 use vx_table::Scope;
 
-/// What is in force at a slice.
+/// The sets, the picture header and the layout in force at a slice.
 #[derive(Clone, Copy)]
 pub struct SliceNumbers<'a> {
     /// The type of its NAL unit.
@@ -41,7 +41,7 @@ pub struct SliceNumbers<'a> {
     pub ids: &'a IdList,
 }
 
-/// Makes the scope of the sets that of a slice.
+/// Turns the scope of the sets into that of a slice.
 fn add_slice(nal_type: u8, sps: &Sps, pps: &Pps, header: &PictureHeader, scope: &mut Scope)
     ensures { scope.new ≡ scopes.slice_scope nal_type sps.now pps.now header.now scope.old }
 {
@@ -54,7 +54,7 @@ fn add_slice(nal_type: u8, sps: &Sps, pps: &Pps, header: &PictureHeader, scope: 
     scope.set(DEFAULT_ACTIVE_1, pps.default_active_1());
 }
 
-/// The scope of a slice, from that of the sets.
+/// Returns the scope of a slice, from that of the sets.
 pub(crate) fn slice_scope(
     nal_type: u8,
     sps: &Sps,
@@ -69,13 +69,14 @@ pub(crate) fn slice_scope(
     scope
 }
 
-/// Reads the slice header that an RBSP begins with, `slice_header()`, clause 7.3.7, and answers how many bytes it takes. The
-/// picture header that may stand inside is passed over.
+/// Reads the slice header at the start of an RBSP, `slice_header()` (clause 7.3.7), and returns it and its number of bytes.
+///
+/// A picture header inside is passed over. The last byte of the header is never 00.
 ///
 /// # Errors
 ///
-/// The first refusal: of a field, of the id of a subpicture that there is none of, or of the picture header inside. Want of
-/// memory.
+/// - `Refused` with the first refusal: of a field, of an id that no subpicture has (S5), or of the picture header inside.
+/// - `Memory` if memory runs out.
 pub fn read_sh(
     alloc: Global,
     rbsp: &[u8],
@@ -91,8 +92,9 @@ pub fn read_sh(
     Ok(read)
 }
 
-/// Reads a slice header as [`read_sh`], at the scope of the sets in force ([`vx_ph::in_force`]), which is made once for all slices
-/// under them.
+/// Reads a slice header as [`read_sh`] does, at the scope of the sets in force ([`vx_ph::in_force`]).
+///
+/// Make that scope once for all slices under the same sets.
 ///
 /// # Errors
 ///
@@ -122,12 +124,13 @@ pub fn read_sh_at(
     Ok(read)
 }
 
-/// Reads the fields of the slice header that an RBSP begins with, `slice_header()`, clause 7.3.7, in the order of the bits, with those of
-/// the picture header that may stand inside, and appends their items.
+/// Reads the fields of the slice header at the start of an RBSP, `slice_header()` (clause 7.3.7), and appends their items.
+///
+/// They come in the order of the bits, with those of a picture header inside.
 ///
 /// # Errors
 ///
-/// As [`read_sh`]; `into` has then gained the fields read before.
+/// As [`read_sh`]. `into` has then gained the fields read before.
 pub fn read_sh_fields(
     rbsp: &[u8],
     numbers: &SliceNumbers<'_>,
@@ -151,11 +154,11 @@ pub fn read_sh_fields(
     Ok(())
 }
 
-/// The bytes of a slice header, `slice_header()`, clause 7.3.7, with the picture header of the numbers where it stands inside.
+/// Returns the bytes of a slice header, `slice_header()` (clause 7.3.7), with the picture header of `numbers` if it is inside.
 ///
 /// # Errors
 ///
-/// Where memory runs out.
+/// `AllocError` if memory runs out.
 pub fn write_sh(
     alloc: Global,
     header: &SliceHeader,

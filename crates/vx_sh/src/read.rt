@@ -1,4 +1,4 @@
-//! Reading a slice header.
+//! Reading of a slice header.
 ghost use Rattle.std.specs.Prelude.{◌≡◌, ◌≤◌, [], length};
 ghost use Rattle.vx_bits.specs.Place.{Place};
 ghost use Rattle.vx_bits.specs.Limits.{unit_limit};
@@ -18,10 +18,10 @@ use vx_fields::sh::{sh_picture_header_in_slice_header_flag, sh_slice_address};
 use vx_rpl::resolve_lists;
 use vx_table::Scope;
 
-/// As many items as slice headers mostly have at most.
+/// The number of items that most slice headers don't exceed.
 const USUAL_ITEMS: usize = 64;
 
-/// Passes over the picture header, where it stands inside.
+/// Passes over the picture header, if it is inside.
 fn pass_inside(n: &Context<'_>, scope: &Scope, bits: &mut BitReader<'_>) -> Result<(), ReadError>
     ensures { IsPassed (header_inside n.now.table.now n.now.sets.now scope.now) scope.now bits.old result bits.new }
 {
@@ -31,7 +31,7 @@ fn pass_inside(n: &Context<'_>, scope: &Scope, bits: &mut BitReader<'_>) -> Resu
     }
 }
 
-/// Reads the fields; the scope is then the one behind them.
+/// Reads the fields. The scope is then the one after them.
 fn read_fields(
     n: &Context<'_>,
     scope: &mut Scope,
@@ -47,7 +47,7 @@ fn read_fields(
     Ok(())
 }
 
-/// Reads all fields, those of the picture header inside too.
+/// Reads all fields, also those of the picture header inside.
 fn read_all(
     n: &Context<'_>,
     scope: &mut Scope,
@@ -61,12 +61,11 @@ fn read_all(
     code_behind(n, scope, bits, into)
 }
 
-/// Reads the fields of the slice header that an RBSP begins with, with those of the picture header that may stand inside, and appends
-/// their items.
+/// Reads the fields of the slice header at the start of an RBSP, with those of a picture header inside, and appends their items.
 ///
 /// # Errors
 ///
-/// As [`read_slice_at`]; `into` has then gained the fields read before.
+/// As [`read_slice_at`]. `into` has then gained the fields read before.
 pub(crate) fn read_fields_at(
     rbsp: &[u8],
     n: &Context<'_>,
@@ -80,13 +79,14 @@ pub(crate) fn read_fields_at(
     read_all(n, scope, &mut bits, into)
 }
 
-/// Reads the slice header that an RBSP begins with, `slice_header()`, clause 7.3.7, and answers how many bytes it takes. The
-/// picture header that may stand inside is passed over. The scope is the slice's, in which the numbers that are read are noted.
+/// Reads the slice header at the start of an RBSP, `slice_header()` (clause 7.3.7), and returns it and its number of bytes.
+///
+/// A picture header inside is passed over. The scope is the slice's, and receives the numbers that are read.
 ///
 /// # Errors
 ///
-/// The first refusal: of a field, of the id of a subpicture that there is none of, or of the picture header inside. Want of
-/// memory.
+/// - `Refused` with the first refusal: of a field, of an id that no subpicture has, or of the picture header inside.
+/// - `Memory` if memory runs out.
 pub(crate) fn read_slice_at(
     alloc: Global,
     rbsp: &[u8],

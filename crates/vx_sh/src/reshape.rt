@@ -1,4 +1,4 @@
-//! What is stated of the slice header that is sent for a frame of several sources.
+//! The new items of the slice header that is sent for a frame of several sources.
 ghost use Rattle.std.specs.Prelude.{◌≡◌, ◌++◌, OnOk, IfOk};
 ghost use Rattle.vx_sh.specs.InForce.{in_force_at};
 ghost use Rattle.vx_sh.specs.Reshaped.{sh_subpic_id_items, stated_filter_items, stated_sh_items};
@@ -17,7 +17,7 @@ use vx_fields::sps::{sps_alf_enabled_flag, sps_subpic_info_present_flag};
 use vx_sps::Sps;
 use vx_table::{Scope, item, push_where};
 
-/// That the picture header stands apart, and the id of the subpicture.
+/// Appends that the picture header is a unit of its own, and the id of the subpicture.
 fn push_id(sps: &Sps, id: u32, into: &mut Fields) -> Result<(), AllocError>
     ensures { OnOk result (into.new ≡ into.old ++ sh_subpic_id_items sps.now id) }
 {
@@ -26,7 +26,7 @@ fn push_id(sps: &Sps, id: u32, into: &mut Fields) -> Result<(), AllocError>
     push_where(described, item(sh_subpic_id, id), into)
 }
 
-/// The filter, where the SPS has it.
+/// Appends the filter, if the SPS has it.
 fn push_filter(sps: &Sps, filter: &Fields, into: &mut Fields) -> Result<(), AllocError>
     ensures { OnOk result (into.new ≡ into.old ++ stated_filter_items sps.now filter.now) }
 {
@@ -36,7 +36,7 @@ fn push_filter(sps: &Sps, filter: &Fields, into: &mut Fields) -> Result<(), Allo
     into.extend_from_slice(filter.as_slice())
 }
 
-/// What is used of LMCS and scaling lists, where the picture header of the slice's scope has them on.
+/// Appends what is used of LMCS and scaling lists, if the picture header of the slice's scope has them on.
 fn push_uses(
     slice: &Scope,
     uses_lmcs: bool,
@@ -57,7 +57,7 @@ fn push_uses(
     )
 }
 
-/// All that is stated, in order.
+/// Returns all new items, in order.
 pub(crate) fn stated_items(
     alloc: Global,
     numbers: &SliceNumbers<'_>,

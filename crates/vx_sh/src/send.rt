@@ -1,4 +1,4 @@
-//! Sending: the slice header that is put together of its source's fields and stated ones is written in one walk.
+//! Sending: the slice header, made of fields of its source and new ones, is written in one walk.
 ghost use Rattle.std.specs.Prelude.{◌≡◌, ◌≤◌, [], length, IfOk};
 ghost use Rattle.vx_sh.specs.InForce.{in_force_at};
 ghost use Rattle.vx_sh.specs.Reshaped.{GoesAt, IsSent, IsShape};
@@ -19,7 +19,7 @@ use vx_bits::{BitWriter, Fields};
 use vx_ph::in_force;
 use vx_table::{FieldSet, Scope, Sender, SpellError, Unwritten, only_memory};
 
-/// The fields with a star, whose items a sender is given apart.
+/// The set of the fields with a star, whose items a sender is given.
 struct Starred;
 
 impl FieldSet for Starred {
@@ -31,9 +31,9 @@ impl FieldSet for Starred {
     }
 }
 
-/// What the slice headers of a picture are sent at, whose units have one type: made once for all of them.
+/// A writer of the slice headers of a picture whose units have one type, made once for all of them.
 ///
-/// It is seen as what is in force at them.
+/// *Model:* what is in force at the slices.
 #[derive(Drop)]
 pub struct SliceSender<'a> {
     numbers: SliceNumbers<'a>,
@@ -50,7 +50,7 @@ impl<'a> Model for SliceSender<'a> {
 }
 
 impl<'a> SliceSender<'a> {
-    /// From what is in force at the slices.
+    /// Returns a sender for slices at which `numbers` are in force.
     pub fn new(numbers: SliceNumbers<'a>) -> SliceSender<'a>
         requires few { length numbers.ids.now ≤ 1000 }
         requires one_each { length numbers.ids.now ≡ length numbers.layout.now.subpics }
@@ -66,11 +66,12 @@ impl<'a> SliceSender<'a> {
         }
     }
 
-    /// Appends the slice header that has these items of the fields with a star, and of the others those of its source.
+    /// Appends the slice header that has these items of the fields with a star, and its source's items of the others.
     ///
     /// # Errors
     ///
-    /// `NoValue` where there is none; want of memory.
+    /// - `NoValue` if there is none.
+    /// - `Memory` if memory runs out.
     fn send_fields(
         &self,
         stated: &Fields,
@@ -94,13 +95,17 @@ impl<'a> SliceSender<'a> {
         code_apart(&n, &mut scope, &mut sender, bits)
     }
 
-    /// The bytes of the slice header, `slice_header()`, clause 7.3.7, that says what `shape` says, and all else as its source: its kept
-    /// fields, its address and its lists are the source's. It is one under what is in force here, where the kept fields of the sets and of
-    /// the picture header are those under which the source was read, and its subpicture has the same slices.
+    /// Writes `source`'s slice header, `slice_header()` (clause 7.3.7), for the merged picture, and returns its bytes.
+    ///
+    /// The fields that `shape` states are new: the id of the subpicture, the filter, the use of LMCS and scaling lists, and the
+    /// QP. All others, the address and the reference lists are `source`'s. Requires that the sets and the picture header in force
+    /// here have the kept fields under which `source` was read, and that its subpicture has the same slices. The source must also
+    /// have been read in a unit of the same type with lists of the same lengths, and the PPS in force must have the filter and
+    /// the QP in slice headers.
     ///
     /// # Errors
     ///
-    /// Where memory runs out.
+    /// `AllocError` if memory runs out.
     pub fn send(
         &self,
         alloc: Global,

@@ -1,10 +1,10 @@
 //! The tables of H.266 clause 7.3.7 (slice header).
 //!
-//! Fields with a star that a merged stream states anew stand in tables of their own: the id of the subpicture, what the slice
-//! uses of the picture's adaptation sets, and the QP.
+//! Fields with a star that a merged stream replaces are in tables of their own: the id of the subpicture, what the slice uses of
+//! the picture's adaptation sets, and the QP.
 //!
-//! Tables that are walked over by type have their text in a macro: `table!` makes the array of it, which is what definitions name,
-//! and `rows!` the rows by type.
+//! Tables that are walked over as types have their text in a macro. `table!` makes the array of it, which definitions name, and
+//! `rows!` the rows as a type.
 use vx_bits::rules::UNKNOWN_SUBPIC_ID;
 use vx_fields::alf::*;
 use vx_fields::names::rpl::{ACTIVE_0, ACTIVE_1, ENTRIES_0, ENTRIES_1};
@@ -28,7 +28,7 @@ macro_rules! header_inside_syntax {
         sh_picture_header_in_slice_header_flag*;
     } };
 }
-/// The first field; behind it comes the picture header, where it stands inside.
+/// The first field. After it comes the picture header, if it is inside.
 pub const HEADER_INSIDE: [Row; 1] = header_inside_syntax!(table);
 
 macro_rules! subpic_id_syntax {
@@ -45,7 +45,7 @@ macro_rules! known_subpic_syntax {
         if (NUM_SUBPICS <= SUBPIC) { refuse sh_subpic_id else Structure(UNKNOWN_SUBPIC_ID); }
     } };
 }
-/// No subpicture has the id.
+/// The refusal of an id that no subpicture has.
 pub const KNOWN_SUBPIC: [Row; 2] = known_subpic_syntax!(table);
 
 macro_rules! address_syntax {
@@ -54,7 +54,7 @@ macro_rules! address_syntax {
         if (NUM_SLICES > 1) { sh_slice_address: u(ceil_log2 NUM_SLICES) below NUM_SLICES; }
     } };
 }
-/// The place of the slice in its subpicture.
+/// The address of the slice in its subpicture.
 pub const ADDRESS: [Row; 3] = address_syntax!(table);
 
 macro_rules! type_syntax {
@@ -74,7 +74,7 @@ macro_rules! filter_here_syntax {
         if pps_alf_info_in_ph_flag { let HAS_ALF = 0; }
     } };
 }
-/// Whether the adaptive loop filter stands here; it comes behind, where it does.
+/// Whether the adaptive loop filter is in this header. If so, it follows.
 pub const FILTER_HERE: [Row; 3] = filter_here_syntax!(table);
 
 macro_rules! lmcs_and_scaling_syntax {
@@ -87,7 +87,7 @@ macro_rules! lmcs_and_scaling_syntax {
         }
     } };
 }
-/// What the slice uses of luma mapping with chroma scaling and of scaling lists, where the picture header stands apart.
+/// What the slice uses of luma mapping with chroma scaling and of scaling lists, if the picture header is a unit of its own.
 pub const LMCS_AND_SCALING: [Row; 6] = lmcs_and_scaling_syntax!(table);
 
 macro_rules! lists_here_syntax {
@@ -99,7 +99,7 @@ macro_rules! lists_here_syntax {
         if pps_rpl_info_in_ph_flag { let HAS_LISTS = 0; }
     } };
 }
-/// Whether reference picture lists stand here; they come behind, where they do.
+/// Whether reference picture lists are in this header. If so, they follow.
 pub const LISTS_HERE: [Row; 8] = lists_here_syntax!(table);
 
 macro_rules! active_syntax {
@@ -157,7 +157,7 @@ macro_rules! inter_syntax {
         if pps_wp_info_in_ph_flag { let HAS_WEIGHTS = 0; }
     } };
 }
-/// How motion is predicted, and whether prediction weights stand here; they come behind, where they do.
+/// How motion is predicted, and whether prediction weights are in this header. If so, they follow.
 pub const INTER: [Row; 22] = inter_syntax!(table);
 
 macro_rules! qp_syntax {
@@ -202,7 +202,7 @@ macro_rules! chroma_qp_and_filters_syntax {
         }
     } };
 }
-/// Chroma QP, and the filters within the loop.
+/// Chroma QP, and the in-loop filters.
 pub const CHROMA_QP_AND_FILTERS: [Row; 28] = chroma_qp_and_filters_syntax!(table);
 
 macro_rules! end_syntax {
@@ -243,7 +243,7 @@ macro_rules! alignment_syntax {
 /// The alignment.
 pub const ALIGNMENT: [Row; 1] = alignment_syntax!(table);
 
-/// The fields with a star, each of which a merged stream states anew: whether the picture header stands inside, the id of the
+/// The fields with a star, each of which a merged stream replaces: whether the picture header is inside, the id of the
 /// subpicture, the filter, the uses of LMCS and scaling lists, and the QP.
 pub const STARRED: [u16; 15] = [
     sh_picture_header_in_slice_header_flag,

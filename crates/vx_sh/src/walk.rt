@@ -1,4 +1,4 @@
-//! The walk over a slice header behind the id of its subpicture, for every coder.
+//! The walk over a slice header after the id of its subpicture, for every coder.
 ghost use Rattle.std.specs.Prelude.{◌≡◌, ℕ};
 ghost use Rattle.vx_table.specs.Walks.{Walks, leaving};
 ghost use Rattle.vx_table.specs.Parts.{sections_form};
@@ -22,18 +22,18 @@ use vx_rpl::{RplTable, code_lists, code_weights};
 use vx_table::by_type::ALWAYS;
 use vx_table::{Coder, Rows, Scope, code_section, formula, rows};
 
-/// How many entry points the slices of a subpicture have.
+/// A source of the numbers of entry points of the slices of a subpicture.
 pub trait EntryPoints {
     ghost use Rattle.std.specs.Prelude.{◌≡◌, ℕ};
 
     ghost points: { Self → ℕ → ℕ };
 
-    /// NumEntryPoints of the slice at an address.
+    /// Returns NumEntryPoints of the slice at an address.
     fn entry_points(&self, address: u32) -> u32
         ensures { result ≡ points self.now address };
 }
 
-/// Tells the scope how many entry points the slice at its address has.
+/// Sets in the scope how many entry points the slice at its address has.
 #[tactic(auto, unfolding(crate::specs::Slice::with_entry_points))]
 fn count_entry_points<P: EntryPoints>(points: &P, scope: &mut Scope)
     ensures { scope.new ≡ with_entry_points (P.points points.now) scope.old }
@@ -57,7 +57,7 @@ fn code_address<I, C: Coder<I>, P: EntryPoints>(
     Ok(())
 }
 
-/// Codes what stands between the address and the lists.
+/// Codes the fields between the address and the lists.
 fn code_before_lists<I, C: Coder<I>>(
     scope: &mut Scope,
     coder: &mut C,
@@ -85,7 +85,7 @@ fn code_before_lists<I, C: Coder<I>>(
     Ok(())
 }
 
-/// Codes the reference picture lists, where they stand here.
+/// Codes the reference picture lists, if they are in this header.
 fn code_lists_here<I, C: Coder<I>>(
     table: &RplTable,
     scope: &mut Scope,
@@ -100,7 +100,7 @@ fn code_lists_here<I, C: Coder<I>>(
     code_lists(table, scope, coder, items)
 }
 
-/// Codes what stands between the lists and prediction weights.
+/// Codes the fields between the lists and prediction weights.
 fn code_between<I, C: Coder<I>>(
     scope: &mut Scope,
     coder: &mut C,
@@ -113,7 +113,7 @@ fn code_between<I, C: Coder<I>>(
     Ok(())
 }
 
-/// Codes prediction weights, where they stand here.
+/// Codes prediction weights, if they are in this header.
 fn code_weights_here<I, C: Coder<I>>(
     scope: &mut Scope,
     coder: &mut C,
@@ -127,7 +127,7 @@ fn code_weights_here<I, C: Coder<I>>(
     code_weights(scope, coder, items)
 }
 
-/// Codes what stands behind prediction weights.
+/// Codes the fields after prediction weights.
 fn code_behind_weights<I, C: Coder<I>>(
     scope: &mut Scope,
     coder: &mut C,
@@ -148,7 +148,7 @@ fn code_behind_weights<I, C: Coder<I>>(
     Ok(())
 }
 
-/// Codes what stands before the lists.
+/// Codes the fields before the lists.
 #[tactic(auto, unfolding(crate::specs::Slice::front_form), using(vx_table::proofs::Steps::then, vx_table::proofs::Steps::stop))]
 fn code_front<I, C: Coder<I>, P: EntryPoints>(
     points: &P,
@@ -162,7 +162,7 @@ fn code_front<I, C: Coder<I>, P: EntryPoints>(
     code_before_lists(scope, coder, items)
 }
 
-/// Codes what stands before prediction weights.
+/// Codes the fields before prediction weights.
 #[tactic(auto, unfolding(crate::specs::Slice::sh_before_weights), using(vx_table::proofs::Steps::then, vx_table::proofs::Steps::stop))]
 fn code_before_weights<I, C: Coder<I>, P: EntryPoints>(
     table: &RplTable,
@@ -178,12 +178,13 @@ fn code_before_weights<I, C: Coder<I>, P: EntryPoints>(
     code_between(scope, coder, items)
 }
 
-/// Codes a slice header, `slice_header()`, clause 7.3.7, behind the id of its subpicture, with its alignment. The scope has
-/// the numbers of the sets and the picture header in force, and the table is the SPS's.
+/// Codes a slice header, `slice_header()` (clause 7.3.7), after the id of its subpicture, with its alignment.
+///
+/// The scope has the numbers of the sets and the picture header in force, and `table` is the SPS's.
 ///
 /// # Errors
 ///
-/// The coder's, at the first field that it refuses.
+/// The coder's error at the first field that it refuses.
 #[tactic(auto, unfolding(crate::specs::Slice::rest_form), using(vx_table::proofs::Steps::then, vx_table::proofs::Steps::stop))]
 pub fn code_rest<I, C: Coder<I>, P: EntryPoints>(
     table: &RplTable,

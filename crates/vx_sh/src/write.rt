@@ -1,4 +1,4 @@
-//! Writing a slice header.
+//! Writing of a slice header.
 ghost use Rattle.std.specs.Prelude.{◌≡◌, [], length, IfOk};
 ghost use Rattle.vx_sh.specs.Whole.{at_of};
 ghost use Rattle.vx_sh.specs.Value.{IsSliceOf, IsSliceHeaderSpelling};
@@ -11,7 +11,7 @@ use std::alloc::{AllocError, Global};
 use vx_bits::{BitWriter, Fields};
 use vx_table::{Scope, SpellError, Unwritten, only_memory};
 
-/// Writes the fields, with those of the picture header where it stands inside.
+/// Writes the fields, with those of the picture header if it is inside.
 fn write_fields(
     n: &Context<'_>,
     scope: &mut Scope,
@@ -31,12 +31,13 @@ fn write_fields(
     Ok(())
 }
 
-/// The bytes of a slice header, `slice_header()`, clause 7.3.7, with the picture header of these items where it stands inside.
-/// The scope is the slice's, in which the numbers that are written are noted.
+/// Returns the bytes of a slice header, `slice_header()` (clause 7.3.7), with the picture header of these items if it is inside.
+///
+/// The scope is the slice's, and receives the numbers that are written.
 ///
 /// # Errors
 ///
-/// Where memory runs out.
+/// `AllocError` if memory runs out.
 pub(crate) fn write_slice_at(
     alloc: Global,
     header: &SliceHeader,
