@@ -1,4 +1,4 @@
-//! The adaptation parameter sets that are stored.
+//! The stored adaptation parameter sets.
 ghost use Rattle.std.specs.Prelude.{◌≡◌, option_map, IfOk};
 
 use std::alloc::AllocError;
@@ -6,12 +6,12 @@ use std::marker::Model;
 use std::sync::Arc;
 use vx_aps::{Aps, SCALING};
 
-/// How many ids a type has at most: 0 to 7 (H.266 7.4.3.6).
+/// The greatest number of ids of a type: 0 to 7 (H.266 7.4.3.6).
 const IDS: u8 = 8;
 
-/// The adaptation parameter sets that are stored, at most one of each type and id. Each is valid, and shared, not copied.
+/// A list of the stored adaptation parameter sets, at most one for each type and id. Each is valid, and shared, not copied.
 ///
-/// It is seen as the list of 24 sets, or their absence: those of type 0 by their ids, and then those of types 1 and 2.
+/// *Model:* the list of 24 sets or their absence: those of type 0 by their ids, and then those of types 1 and 2.
 #[derive(Drop)]
 pub struct ApsList {
     sets: [Option<Arc<Aps>>; 24],
@@ -29,7 +29,7 @@ impl Model for ApsList {
     ghost invariant = { λ l. (length l.sets ≡ 24) × AreValid (map (option_map (λ arc. arc.value)) l.sets) };
 }
 
-/// A set that may be there, shared.
+/// Returns a set that may be absent, shared.
 fn shared(aps: &Option<Arc<Aps>>) -> Result<Option<Arc<Aps>>, AllocError>
     ensures { IfOk result (λ copy. option_map (λ arc. arc.value) copy ≡ option_map (λ arc. arc.value) aps.now) }
 {
@@ -44,7 +44,7 @@ impl ApsList {
     ghost use Rattle.vx_aps.specs.Aps.{IsValid};
     ghost use Rattle.vx_pic.specs.Parts.{aps_at, slot_of};
 
-    /// No sets. Takes no memory.
+    /// Returns an empty list. Takes no memory.
     pub fn new() -> ApsList
         ensures { result ≡ replicate 24 None }
     {
@@ -57,7 +57,7 @@ impl ApsList {
     }
 
     #[tactic(auto, using(crate::proofs::ApsLists::replaced))]
-    /// Stores a set in the place of the one of its type and id. Takes no memory.
+    /// Stores a set in place of the one with its type and id. Takes no memory.
     pub fn put(&mut self, aps: Arc<Aps>)
         requires { IsValid aps.value }
         ensures list { self.new ≡ slice_set self.old (slot_of aps.value.kind aps.value.id) (Some aps.value) }
@@ -66,7 +66,7 @@ impl ApsList {
         self.sets[place] = Some(aps);
     }
 
-    /// The set of a type and an id.
+    /// Returns the set with a type and an id, or `None` if there is none.
     pub fn get(&self, kind: u8, id: u8) -> Option<&Aps>
         ensures set { option_copied result ≡ aps_at self.now kind id }
         ensures valid { IfSome result (λ aps. IsValid aps.now) }
@@ -74,7 +74,7 @@ impl ApsList {
         self.at(kind, u32::from(id))
     }
 
-    /// The set of a type and an id of any size.
+    /// Returns the set with a type and an id of any size.
     pub(crate) fn at(&self, kind: u8, id: u32) -> Option<&Aps>
         ensures set { option_copied result ≡ aps_at self.now kind id }
         ensures valid { IfSome result (λ aps. IsValid aps.now) }
@@ -89,11 +89,11 @@ impl ApsList {
     }
 
     #[tactic(auto, using(crate::proofs::ApsLists::filled, crate::proofs::ApsLists::all_filled))]
-    /// The same sets once more, each shared with this list. Takes no memory.
+    /// Returns a second list of the same sets, each shared with this list. Takes no memory.
     ///
     /// # Errors
     ///
-    /// Where a set has as many owners as can be counted.
+    /// `AllocError` if a set has as many owners as can be counted.
     pub fn share(&self) -> Result<ApsList, AllocError>
         ensures { IfOk result (λ list. list ≡ self.now) }
     {

@@ -1,4 +1,4 @@
-//! Where decoding inputs differ.
+//! The first difference of two decoding inputs.
 ghost use Rattle.std.specs.Prelude.{◌≡◌, ℕ, Bool, List, [], ◌∷◌, Some, map, option_copied, option_map};
 ghost use Rattle.std.specs.Bool.{OnTrue, OnFalse};
 ghost use Rattle.vx_pic.specs.Seen.{alf_seen, input_seen};
@@ -14,17 +14,17 @@ use vx_bits::{BodyList, Item, Kept};
 use vx_layout::{Bounds, Numbers, Rect, RectList};
 use vx_rpl::{RefEntry, RefList, RefLists};
 
-/// Where two decoding inputs differ first.
+/// The first difference of two decoding inputs.
 #[derive(Clone, Copy, Debug, PartialEq, Eq)]
 pub struct Difference {
     /// The part, from 1 to 12, in the order of the fields of [`DecodingInput`].
     pub part: u8,
-    /// For the kept fields of a set or a header, parts 2 to 5, the number of the field at the first place where both lists differ:
-    /// the first list's there, or the second's where the first has ended. Else 0.
+    /// For parts 2 to 5, the kept fields of a set or a header: the number of the field at the first place where the lists differ.
+    /// It is the first list's field there, or the second's if the first has ended. Otherwise 0.
     pub field: u16,
 }
 
-/// Whether two lists have the same items. It takes no memory.
+/// Returns whether two lists have the same items. Takes no memory.
 #[tactic(auto, using(crate::proofs::SameItems::items_longer, crate::proofs::SameItems::field_differs, crate::proofs::SameItems::value_differs, crate::proofs::SameItems::alike_at, crate::proofs::SameItems::all_alike_items))]
 pub fn same_items(items: &[Item], others: &[Item]) -> bool
     ensures { result ≡ sets.same_items items.now others.now }
@@ -44,8 +44,9 @@ pub fn same_items(items: &[Item], others: &[Item]) -> bool
     true
 }
 
-/// The field at the first place where two lists of items differ: the first list's there, or the second's where the first has ended;
-/// `None` where they are the same. It takes no memory.
+/// Returns the field at the first place where two lists of items differ, or `None` if they are the same. Takes no memory.
+///
+/// It is the first list's field there, or the second's if the first has ended.
 #[tactic(auto, using(crate::proofs::Comparing::item_alike, crate::proofs::Comparing::item_differs))]
 pub fn differing_field(items: &[Item], others: &[Item]) -> Option<u16>
     ensures { result ≡ differences.differing_field items.now others.now }
@@ -61,7 +62,7 @@ pub fn differing_field(items: &[Item], others: &[Item]) -> Option<u16>
     behind.first().map(|other| other.field)
 }
 
-/// Whether two byte strings are the same.
+/// Returns whether two byte strings are the same.
 fn same_bytes(a: &[u8], b: &[u8]) -> bool
     ensures same { OnTrue result (a.now ≡ b.now) }
     ensures other { OnFalse result (¬ (a.now ≡ b.now)) }
@@ -69,7 +70,7 @@ fn same_bytes(a: &[u8], b: &[u8]) -> bool
     a == b
 }
 
-/// Whether two bodies are the same, or both are absent.
+/// Returns whether two bodies are the same, or both are absent.
 pub fn same_body(a: Option<&[u8]>, b: Option<&[u8]>) -> bool
     ensures same { OnTrue result (option_copied a.entry ≡ option_copied b.entry) }
     ensures other { OnFalse result (¬ (option_copied a.entry ≡ option_copied b.entry)) }
@@ -81,7 +82,7 @@ pub fn same_body(a: Option<&[u8]>, b: Option<&[u8]>) -> bool
     }
 }
 
-/// Whether two lists have the same bodies.
+/// Returns whether two lists have the same bodies.
 #[tactic(auto, using(crate::proofs::Comparing::seen_longer, crate::proofs::Comparing::seen_differ, crate::proofs::Comparing::seen_more, crate::proofs::Comparing::seen_alike))]
 fn same_bodies(a: &BodyList<'_>, b: &BodyList<'_>) -> bool
     ensures same { OnTrue result (map (λ body. body.now) a.now ≡ map (λ body. body.now) b.now) }
@@ -98,7 +99,7 @@ fn same_bodies(a: &BodyList<'_>, b: &BodyList<'_>) -> bool
     true
 }
 
-/// Whether two adaptive loop filters are the same.
+/// Returns whether two adaptive loop filters are the same.
 #[tactic(auto, using(crate::proofs::FieldByField::alf_alike, crate::proofs::FieldByField::alf_enabled, crate::proofs::FieldByField::alf_luma, crate::proofs::FieldByField::alf_cb, crate::proofs::FieldByField::alf_cr, crate::proofs::FieldByField::alf_chroma, crate::proofs::FieldByField::alf_cc_cb, crate::proofs::FieldByField::alf_cc_cr))]
 fn same_alf(a: &AlfInForce<'_>, b: &AlfInForce<'_>) -> bool
     ensures same { OnTrue result (alf_seen a.now ≡ alf_seen b.now) }
@@ -128,7 +129,7 @@ fn same_alf(a: &AlfInForce<'_>, b: &AlfInForce<'_>) -> bool
     true
 }
 
-/// Whether two uses of luma mapping with chroma scaling are the same.
+/// Returns whether two uses of luma mapping with chroma scaling are the same.
 fn same_lmcs(a: Option<(&[u8], bool)>, b: Option<(&[u8], bool)>) -> bool
     ensures same { OnTrue result (option_map {U = List ℕ × Bool} (λ x. (x.0.now, x.1)) a.entry ≡ option_map {U = List ℕ × Bool} (λ x. (x.0.now, x.1)) b.entry) }
     ensures other { OnFalse result (¬ (option_map {U = List ℕ × Bool} (λ x. (x.0.now, x.1)) a.entry ≡ option_map {U = List ℕ × Bool} (λ x. (x.0.now, x.1)) b.entry)) }
@@ -145,7 +146,7 @@ fn same_lmcs(a: Option<(&[u8], bool)>, b: Option<(&[u8], bool)>) -> bool
     }
 }
 
-/// Whether two entries of reference picture lists are the same.
+/// Returns whether two entries of reference picture lists are the same.
 fn same_entry(a: RefEntry, b: RefEntry) -> bool
     ensures same { OnTrue result (a ≡ b) }
     ensures other { OnFalse result (¬ (a ≡ b)) }
@@ -153,7 +154,7 @@ fn same_entry(a: RefEntry, b: RefEntry) -> bool
     a == b
 }
 
-/// Whether two reference picture lists are the same.
+/// Returns whether two reference picture lists are the same.
 #[tactic(auto, using(crate::proofs::Comparing::longer, crate::proofs::Comparing::differ_at, crate::proofs::Comparing::alike_more, crate::proofs::Comparing::all_alike))]
 fn same_list(a: &RefList, b: &RefList) -> bool
     ensures same { OnTrue result (a.now ≡ b.now) }
@@ -170,7 +171,7 @@ fn same_list(a: &RefList, b: &RefList) -> bool
     true
 }
 
-/// Whether two bounds are the same.
+/// Returns whether two lists of bounds are the same.
 #[tactic(auto, using(crate::proofs::Comparing::longer, crate::proofs::Comparing::differ_at, crate::proofs::Comparing::alike_more, crate::proofs::Comparing::all_alike))]
 fn same_bounds(a: &Bounds, b: &Bounds) -> bool
     ensures same { OnTrue result (a.now ≡ b.now) }
@@ -187,7 +188,7 @@ fn same_bounds(a: &Bounds, b: &Bounds) -> bool
     true
 }
 
-/// Whether two rectangles are the same.
+/// Returns whether two rectangles are the same.
 fn same_rect(a: Rect, b: Rect) -> bool
     ensures same { OnTrue result (a ≡ b) }
     ensures other { OnFalse result (¬ (a ≡ b)) }
@@ -195,7 +196,7 @@ fn same_rect(a: Rect, b: Rect) -> bool
     a == b
 }
 
-/// Whether two lists have the same rectangles.
+/// Returns whether two lists have the same rectangles.
 #[tactic(auto, using(crate::proofs::Comparing::longer, crate::proofs::Comparing::differ_at, crate::proofs::Comparing::alike_more, crate::proofs::Comparing::all_alike))]
 fn same_rects(a: &RectList, b: &RectList) -> bool
     ensures same { OnTrue result (a.now ≡ b.now) }
@@ -212,7 +213,7 @@ fn same_rects(a: &RectList, b: &RectList) -> bool
     true
 }
 
-/// Whether both have the same reference picture lists. It takes no memory.
+/// Returns whether both have the same reference picture lists. Takes no memory.
 #[tactic(auto, using(crate::proofs::FieldByField::lists_alike, crate::proofs::FieldByField::lists_first, crate::proofs::FieldByField::lists_second))]
 pub fn same_lists(a: &RefLists, b: &RefLists) -> bool
     ensures same { OnTrue result (a.now ≡ b.now) }
@@ -227,7 +228,7 @@ pub fn same_lists(a: &RefLists, b: &RefLists) -> bool
     true
 }
 
-/// Whether two layouts are the same.
+/// Returns whether two layouts are the same.
 #[tactic(auto, using(crate::proofs::FieldByField::numbers_alike, crate::proofs::FieldByField::numbers_columns, crate::proofs::FieldByField::numbers_rows, crate::proofs::FieldByField::numbers_slices, crate::proofs::FieldByField::numbers_subpics))]
 fn same_numbers(a: &Numbers, b: &Numbers) -> bool
     ensures same { OnTrue result (a.now ≡ b.now) }
@@ -248,7 +249,7 @@ fn same_numbers(a: &Numbers, b: &Numbers) -> bool
     true
 }
 
-/// Whether two places are the same.
+/// Returns whether two places are the same.
 #[tactic(auto, using(crate::proofs::FieldByField::place_alike, crate::proofs::FieldByField::place_width, crate::proofs::FieldByField::place_height, crate::proofs::FieldByField::place_layout, crate::proofs::FieldByField::place_address, crate::proofs::FieldByField::place_tiles, crate::proofs::FieldByField::place_slices))]
 fn same_place(a: &Place, b: &Place) -> bool
     ensures same { OnTrue result (a.now ≡ b.now) }
@@ -275,14 +276,14 @@ fn same_place(a: &Place, b: &Place) -> bool
     true
 }
 
-/// A difference in a part of which no field is told.
+/// Returns a difference in a part without a field.
 fn whole(part: u8) -> Option<Difference>
     ensures { result ≡ Some (record { part = part; field = 0 }) }
 {
     Some(Difference { part, field: 0 })
 }
 
-/// A difference in a part of which a field is told, where there is one.
+/// Returns a difference in a part with a field, if there is one.
 #[tactic(auto, using(crate::proofs::Comparing::none_differs, crate::proofs::Comparing::some_differs))]
 fn in_fields(part: u8, items: &Kept, others: &Kept) -> Option<Difference>
     ensures { Compares (differences.fields_part items.now others.now ∷ []) part result }
@@ -291,7 +292,7 @@ fn in_fields(part: u8, items: &Kept, others: &Kept) -> Option<Difference>
     Some(Difference { part, field })
 }
 
-/// Where two inputs differ first in the kind and the kept fields.
+/// Returns the first difference of two inputs in the kind and the kept fields.
 fn in_headers(a: &DecodingInput<'_>, b: &DecodingInput<'_>) -> Option<Difference>
     ensures { Compares (differences.parts_in_headers (input_seen a.now) (input_seen b.now)) 1 result }
 {
@@ -310,7 +311,7 @@ fn in_headers(a: &DecodingInput<'_>, b: &DecodingInput<'_>) -> Option<Difference
     in_fields(5, &a.slice, &b.slice)
 }
 
-/// Where two inputs differ first in what is in force, the place and the payload.
+/// Returns the first difference of two inputs in what is in force, the place and the payload.
 fn in_force(a: &DecodingInput<'_>, b: &DecodingInput<'_>) -> Option<Difference>
     ensures { Compares (differences.parts_in_force (input_seen a.now) (input_seen b.now)) 6 result }
 {
@@ -338,7 +339,7 @@ fn in_force(a: &DecodingInput<'_>, b: &DecodingInput<'_>) -> Option<Difference>
     None
 }
 
-/// Where two decoding inputs differ first; `None` exactly where they are equal. It takes no memory.
+/// Returns the first difference of two decoding inputs, or `None` exactly if they are equal. Takes no memory.
 #[tactic(auto, using(crate::proofs::PartByPart::in_front, crate::proofs::PartByPart::in_back, crate::proofs::PartByPart::all_same))]
 pub fn same_input(a: &DecodingInput<'_>, b: &DecodingInput<'_>) -> Option<Difference>
     ensures { IsDifference (input_seen a.now) (input_seen b.now) result }

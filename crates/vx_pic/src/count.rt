@@ -6,8 +6,8 @@ ghost use Rattle.vx_pic.specs.Counted.{previous_of, checked};
 use vx_bits::Refusal;
 use vx_bits::rules::POC_RANGE;
 
-/// prevTid0Pic, as the counts of later pictures see it: the last picture with TemporalId 0 and ph_non_ref_pic_flag 0 that is
-/// neither RADL nor RASL. Both numbers are 0 where there is none.
+/// prevTid0Pic as the counts of later pictures use it: the last picture with TemporalId 0 and ph_non_ref_pic_flag 0 that is
+/// neither RADL nor RASL (H.266 8.3.1). Both numbers are 0 if there is none.
 #[derive(Clone, Copy, Debug, Default, PartialEq, Eq)]
 pub struct PrevTid0 {
     /// Its ph_pic_order_cnt_lsb.
@@ -16,18 +16,18 @@ pub struct PrevTid0 {
     pub poc: i32,
 }
 
-/// What an SPS and a picture header tell of a picture's count.
+/// The fields of an SPS and a picture header from which a picture's count is computed.
 #[derive(Clone, Copy, Debug, PartialEq, Eq)]
 pub struct CountFields {
-    /// The bits of ph_pic_order_cnt_lsb, from 4 to 16: sps_log2_max_pic_order_cnt_lsb_minus4 + 4.
+    /// The number of bits of ph_pic_order_cnt_lsb, from 4 to 16: sps_log2_max_pic_order_cnt_lsb_minus4 + 4.
     pub lsb_bits: u32,
     /// ph_pic_order_cnt_lsb.
     pub lsb: u32,
-    /// ph_poc_msb_cycle_val, where it is present.
+    /// ph_poc_msb_cycle_val, if it is present.
     pub msb_cycle: Option<u32>,
 }
 
-/// prevPicOrderCntMsb.
+/// Returns prevPicOrderCntMsb.
 fn previous_msb(previous: PrevTid0) -> i64
     ensures value { result ≡ previous.poc -ℤ pos previous.lsb }
     ensures low { neg_ℤ (pos (2 ^ 33)) ≤ℤ result }
@@ -36,7 +36,7 @@ fn previous_msb(previous: PrevTid0) -> i64
     i64::from(previous.poc) - i64::from(previous.lsb)
 }
 
-/// PicOrderCntMsb from prevTid0Pic, `max` being MaxPicOrderCntLsb.
+/// Returns PicOrderCntMsb from prevTid0Pic; `max` is MaxPicOrderCntLsb.
 fn nearest(max: u32, lsb: u32, previous: PrevTid0) -> i64
     ensures value { result ≡ nearest_msb max lsb (previous_of previous) }
     ensures low { neg_ℤ (pos (2 ^ 50)) ≤ℤ result }
@@ -53,7 +53,7 @@ fn nearest(max: u32, lsb: u32, previous: PrevTid0) -> i64
     msb
 }
 
-/// PicOrderCntMsb.
+/// Returns PicOrderCntMsb.
 fn picture_msb(max: u32, fields: &CountFields, clvss: bool, previous: PrevTid0) -> i64
     requires { max ≤ 2 ^ 16 }
     ensures value { result ≡ msb_by fields.now.msb_cycle clvss max fields.now.lsb (previous_of previous) }
@@ -67,7 +67,7 @@ fn picture_msb(max: u32, fields: &CountFields, clvss: bool, previous: PrevTid0) 
     }
 }
 
-/// A count in 32 bits.
+/// Returns a count, if it fits in 32 bits.
 #[tactic(auto, using(crate::proofs::Fitting::fit_count, crate::proofs::Fitting::misfit_count))]
 fn in_range(count: i64) -> Result<i32, Refusal>
     ensures { result ≡ checked count }
@@ -82,11 +82,13 @@ fn in_range(count: i64) -> Result<i32, Refusal>
     }
 }
 
-/// PicOrderCntVal of a picture, `clvss` saying whether it starts a coded layer video sequence. It takes no memory.
+/// Returns PicOrderCntVal of a picture (H.266 8.3.1). Takes no memory.
+///
+/// `clvss` says whether the picture starts a coded layer video sequence.
 ///
 /// # Errors
 ///
-/// POC_RANGE where the count doesn't fit in 32 bits.
+/// POC_RANGE if the count doesn't fit in 32 bits.
 pub fn picture_order_count(
     fields: &CountFields,
     clvss: bool,

@@ -35,7 +35,7 @@ use vx_rpl::{RefList, RefLists};
 use vx_sh::SliceHeader;
 use vx_table::natural;
 
-/// The adaptive loop filter in force at a slice, by the bodies of its adaptation parameter sets.
+/// The adaptive loop filter in force at a slice, with the bodies of its adaptation parameter sets.
 #[derive(Drop)]
 pub struct AlfInForce<'a> {
     /// Whether it is on.
@@ -54,8 +54,7 @@ pub struct AlfInForce<'a> {
     pub cc_cr: Option<&'a [u8]>,
 }
 
-/// The body of the adaptation parameter set of a type that a field among these items names, where the field is present. It takes no
-/// memory.
+/// Returns the body of the adaptation parameter set of type `kind` that `field` names, if the field is present. Takes no memory.
 pub fn body_named<'a>(
     picture: &Picture<'a>,
     kind: u8,
@@ -87,11 +86,11 @@ fn push_luma<'a>(
     }
 }
 
-/// The bodies for luma that items name, in order.
+/// Returns the bodies for luma that items name, in order.
 ///
 /// # Errors
 ///
-/// Want of memory.
+/// `AllocError` if memory runs out.
 #[tactic(auto, using(crate::proofs::Bodies::luma_more))]
 pub fn luma_bodies<'a>(
     alloc: Global,
@@ -107,7 +106,7 @@ pub fn luma_bodies<'a>(
     Ok(bodies)
 }
 
-/// The adaptive loop filter, as the items of a header have it.
+/// Returns the adaptive loop filter from the items of a header.
 fn alf_in<'a>(
     alloc: Global,
     picture: &Picture<'a>,
@@ -126,7 +125,7 @@ fn alf_in<'a>(
     })
 }
 
-/// The items among which the adaptive loop filter of a slice stands: the picture header's or its own. It takes no memory.
+/// Returns the items that contain the adaptive loop filter of a slice: the picture header's or its own. Takes no memory.
 pub fn filter_fields<'s, 'a: 's>(picture: &Picture<'a>, slice: &'s SliceHeader) -> &'s Fields
     ensures { result.now ≡ filter_items picture.now.pps picture.now.header.fields (read_of slice.now) }
 {
@@ -137,7 +136,11 @@ pub fn filter_fields<'s, 'a: 's>(picture: &Picture<'a>, slice: &'s SliceHeader) 
     }
 }
 
-/// The adaptive loop filter of a slice: the picture header's or its own.
+/// Returns the adaptive loop filter of a slice: the picture header's or its own.
+///
+/// # Errors
+///
+/// `AllocError` if memory runs out.
 pub fn alf_in_force<'a>(
     alloc: Global,
     picture: &Picture<'a>,
@@ -148,7 +151,7 @@ pub fn alf_in_force<'a>(
     alf_in(alloc, picture, filter_fields(picture, slice))
 }
 
-/// Whether a slice uses what the picture header may enable.
+/// Returns whether a slice uses what the picture header may enable.
 fn uses(header: &Fields, slice: &SliceHeader, enabled: u16, used: u16) -> bool
     ensures { result ≡ is_used header.now slice.now enabled used }
 {
@@ -157,7 +160,7 @@ fn uses(header: &Fields, slice: &SliceHeader, enabled: u16, used: u16) -> bool
             || number_of(&slice.fields, used) != 0)
 }
 
-/// Luma mapping with chroma scaling, where the slice uses it: its body, and ph_chroma_residual_scale_flag.
+/// Returns luma mapping with chroma scaling, if the slice uses it: its body, and ph_chroma_residual_scale_flag.
 pub(crate) fn lmcs_in_force<'a>(
     picture: &Picture<'a>,
     slice: &SliceHeader,
@@ -172,7 +175,7 @@ pub(crate) fn lmcs_in_force<'a>(
     body_named(picture, LMCS, ph_lmcs_aps_id, header).map(|body| (body, scaled))
 }
 
-/// Scaling lists, where the slice uses them.
+/// Returns scaling lists, if the slice uses them.
 pub(crate) fn scaling_in_force<'a>(picture: &Picture<'a>, slice: &SliceHeader) -> Option<&'a [u8]>
     ensures { option_copied result ≡ scaling_of picture.now slice.now }
 {
@@ -187,7 +190,7 @@ pub(crate) fn scaling_in_force<'a>(picture: &Picture<'a>, slice: &SliceHeader) -
     body_named(picture, SCALING, ph_scaling_list_aps_id, header)
 }
 
-/// A reference picture list once more.
+/// Returns a copy of a reference picture list.
 #[tactic(auto, using(crate::proofs::Spans::gained))]
 fn copied(alloc: Global, list: &RefList) -> Result<RefList, AllocError>
     ensures { IfOk result (λ copy. copy ≡ list.now) }
@@ -199,7 +202,7 @@ fn copied(alloc: Global, list: &RefList) -> Result<RefList, AllocError>
     Ok(copy)
 }
 
-/// Both reference picture lists of a slice: the picture header's or its own.
+/// Returns both reference picture lists of a slice: the picture header's or its own.
 pub(crate) fn lists_of_slice(
     alloc: Global,
     picture: &Picture<'_>,
@@ -219,14 +222,14 @@ pub(crate) fn lists_of_slice(
     })
 }
 
-/// The value of a field, and 0 where it is absent.
+/// Returns the value of a field, or 0 if it is absent.
 fn signed(items: &Fields, field: u16) -> i64
     ensures { result ≡ sets.signed items.now field }
 {
     items.first(field).unwrap_or(0)
 }
 
-/// ph_qp_delta or sh_qp_delta.
+/// Returns ph_qp_delta or sh_qp_delta.
 fn qp_delta(picture: &Picture<'_>, slice: &SliceHeader) -> i64
     ensures { result ≡ sets.qp_delta picture.now.pps picture.now.header.fields (read_of slice.now) }
 {
@@ -237,14 +240,14 @@ fn qp_delta(picture: &Picture<'_>, slice: &SliceHeader) -> i64
     }
 }
 
-/// pps_init_qp_minus26.
+/// Returns pps_init_qp_minus26.
 fn init_qp(picture: &Picture<'_>) -> i64
     ensures { result ≡ sets.signed picture.now.pps pps_fields.pps_init_qp_minus26 }
 {
     signed(picture.pps().fields(), pps_init_qp_minus26)
 }
 
-/// 26 and both parts of SliceQpY.
+/// Returns the sum of 26 and both parts of SliceQpY.
 fn total_qp(init: i64, delta: i64) -> i32
     requires low { neg_ℤ (pos 12) ≤ℤ ((init +ℤ delta) +ℤ pos 26) }
     requires high { ((init +ℤ delta) +ℤ pos 26) ≤ℤ pos 63 }
@@ -253,13 +256,13 @@ fn total_qp(init: i64, delta: i64) -> i32
     (init + delta + 26) as i32
 }
 
-/// SliceQpY of a slice.
+/// Returns SliceQpY of a slice.
 #[tactic(auto, using(crate::proofs::Ranges::qp_low, crate::proofs::Ranges::qp_high, crate::proofs::Ranges::qp_sum))]
 pub(crate) fn slice_qp_of(picture: &Picture<'_>, slice: &SliceHeader) -> i32
     requires { is_qp picture.now.sps (sets.slice_qp picture.now.pps picture.now.header.fields (read_of slice.now)) ≡ true }
     ensures { result ≡ sets.slice_qp picture.now.pps picture.now.header.fields (read_of slice.now) }
 {
-    // The items of an SPS are in their ranges, the bit depth among them, which bounds the QP.
+    // The items of an SPS are in their ranges, including the bit depth, which bounds the QP.
     let _sps = picture.sps_fields();
     total_qp(init_qp(picture), qp_delta(picture, slice))
 }

@@ -18,11 +18,13 @@ use vx_bits::Kept;
 use vx_rpl::RefLists;
 use vx_sh::SliceHeader;
 
-/// All that decoding a slice depends on but for the pictures that it refers to. Two slices whose inputs are the same decode alike,
-/// wherever in a frame they stand, and whatever ids name their sets.
+/// The decoding input of a slice: everything that its decoding depends on, except the pictures to which it refers.
+///
+/// By H.266, two slices with the same input decode alike, wherever they are in a frame and whatever ids name their sets. That is
+/// not proved here.
 #[derive(Drop)]
 pub struct DecodingInput<'a> {
-    /// What its picture is among the pictures of its stream.
+    /// The kind of its picture among the pictures of its stream.
     pub kind: Kind,
     /// The kept fields of the SPS.
     pub sps: Kept,
@@ -34,9 +36,9 @@ pub struct DecodingInput<'a> {
     pub slice: Kept,
     /// The adaptive loop filter.
     pub alf: AlfInForce<'a>,
-    /// Luma mapping with chroma scaling, where the slice uses it: its body, and ph_chroma_residual_scale_flag.
+    /// Luma mapping with chroma scaling, if the slice uses it: its body, and ph_chroma_residual_scale_flag.
     pub lmcs: Option<(&'a [u8], bool)>,
-    /// Scaling lists, where the slice uses them.
+    /// Scaling lists, if the slice uses them.
     pub scaling: Option<&'a [u8]>,
     /// The reference picture lists.
     pub lists: RefLists,
@@ -44,7 +46,7 @@ pub struct DecodingInput<'a> {
     pub slice_qp: i32,
     /// The place of the slice in its subpicture.
     pub place: Place,
-    /// The bytes of its unit behind the slice header.
+    /// The bytes of its unit after the slice header.
     pub payload: &'a [u8],
 }
 
@@ -57,7 +59,7 @@ struct KeptParts {
     slice: Kept,
 }
 
-/// Those of a slice of a picture.
+/// Returns the kept fields for a slice of a picture.
 fn kept_parts(
     alloc: Global,
     picture: &Picture<'_>,
@@ -86,7 +88,7 @@ struct InForce<'a> {
     slice_qp: i32,
 }
 
-/// What is in force at a slice of a picture.
+/// Returns what is in force at a slice of a picture.
 fn in_force_at<'a>(
     alloc: Global,
     picture: &Picture<'a>,
@@ -111,7 +113,7 @@ fn in_force_at<'a>(
     })
 }
 
-/// The decoding input of these parts.
+/// Returns the decoding input with these parts.
 fn input_from<'a>(
     kind: Kind,
     kept: KeptParts,
@@ -137,7 +139,7 @@ fn input_from<'a>(
     }
 }
 
-/// What is in force at a slice of a picture, and its place.
+/// Returns what is in force at a slice of a picture, and its place.
 fn here_and_place<'a>(
     alloc: Global,
     picture: &Picture<'a>,
@@ -157,7 +159,7 @@ fn here_and_place<'a>(
     Ok((here, place))
 }
 
-/// The decoding input of a slice that a picture lends.
+/// Returns the decoding input of a slice that a picture lends.
 fn input_of_view<'a>(
     alloc: Global,
     picture: &Picture<'a>,
@@ -173,7 +175,7 @@ fn input_of_view<'a>(
     Ok(input_from(picture.kind(), kept, here, place, slice.payload))
 }
 
-/// The decoding input of a slice of a picture, as callers see both.
+/// Returns the decoding input of a slice of a picture, in terms of their models.
 fn input_at<'a>(
     alloc: Global,
     picture: &Picture<'a>,
@@ -185,7 +187,14 @@ fn input_at<'a>(
     input_of_view(alloc, picture, picture.slice(i))
 }
 
-/// The decoding input of a slice of a picture, counted from 0 in the order of the picture. Bodies and payload are borrowed.
+/// Returns the decoding input of slice `i` of a picture, from 0 in the order of the picture.
+///
+/// It has the kind, the kept fields, what is in force, the place counted from the corner of its subpicture, and the payload.
+/// Bodies and payload are borrowed.
+///
+/// # Errors
+///
+/// `AllocError` if memory runs out.
 pub fn decoding_input<'a>(
     alloc: Global,
     picture: &Picture<'a>,

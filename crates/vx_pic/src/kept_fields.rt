@@ -15,7 +15,7 @@ use vx_pps::{Pps, keep_pps};
 use vx_sps::{Sps, keep_sps};
 use vx_table::{NameList, push_unstarred};
 
-/// Appends the fields without a star of reference picture lists.
+/// Appends the fields of reference picture lists that have no star.
 fn push_lists(kept: &mut NameList) -> Result<(), AllocError>
     ensures { OnOk result (kept.new ≡ kept.old ++ unstarred header.lists_tables) }
 {
@@ -52,12 +52,13 @@ fn push_header_front(kept: &mut NameList) -> Result<(), AllocError>
     Ok(())
 }
 
-/// The kept fields of a picture header: those without a star, which a header that is rewritten has as its source. To be
-/// gathered once where several headers are told by what they keep.
+/// Returns the kept fields of a picture header: those without a star, which a rewritten header has from its source.
+///
+/// Get them once if the kept fields of several headers are needed.
 ///
 /// # Errors
 ///
-/// Where memory runs out.
+/// `AllocError` if memory runs out.
 pub fn header_fields(alloc: Global) -> Result<NameList, AllocError>
     ensures { IfOk result (λ fields. fields ≡ header.kept_ph_fields) }
 {
@@ -72,7 +73,7 @@ pub fn header_fields(alloc: Global) -> Result<NameList, AllocError>
     Ok(kept)
 }
 
-/// Appends the fields without a star of a slice header between its address and its lists.
+/// Appends the fields of a slice header between its address and its lists that have no star.
 fn push_slice_front(kept: &mut NameList) -> Result<(), AllocError>
     ensures { OnOk result (kept.new ≡ kept.old ++ unstarred before_lists) }
 {
@@ -84,7 +85,7 @@ fn push_slice_front(kept: &mut NameList) -> Result<(), AllocError>
     Ok(())
 }
 
-/// Appends those behind its weights.
+/// Appends those after its weights.
 fn push_slice_back(kept: &mut NameList) -> Result<(), AllocError>
     ensures { OnOk result (kept.new ≡ kept.old ++ unstarred behind_weights) }
 {
@@ -95,7 +96,7 @@ fn push_slice_back(kept: &mut NameList) -> Result<(), AllocError>
     Ok(())
 }
 
-/// The kept fields of a slice header.
+/// Returns the kept fields of a slice header.
 fn slice_fields(alloc: Global) -> Result<NameList, AllocError>
     ensures { IfOk result (λ fields. fields ≡ slice.kept_fields) }
 {
@@ -113,7 +114,11 @@ fn slice_fields(alloc: Global) -> Result<NameList, AllocError>
     Ok(kept)
 }
 
-/// The items of these fields, in order.
+/// Returns the items of the fields in `fields`, in order.
+///
+/// # Errors
+///
+/// `AllocError` if memory runs out.
 pub fn kept_among(alloc: Global, items: &Fields, fields: &[u16]) -> Result<Kept, AllocError>
     ensures { IfOk result (λ kept. kept ≡ shown_items fields.now items.now) }
 {
@@ -127,7 +132,7 @@ pub fn kept_among(alloc: Global, items: &Fields, fields: &[u16]) -> Result<Kept,
     Ok(kept)
 }
 
-/// These items, all of which are kept.
+/// Returns these items, all of which are kept.
 fn keep_all(alloc: Global, items: &Fields) -> Result<Kept, AllocError>
     ensures { IfOk result (λ kept. kept ≡ items.now) }
 {
@@ -138,21 +143,25 @@ fn keep_all(alloc: Global, items: &Fields) -> Result<Kept, AllocError>
     Ok(kept)
 }
 
-/// The kept fields of an SPS.
+/// Returns the kept fields of an SPS.
 pub(crate) fn kept_of_sps(alloc: Global, sps: &Sps) -> Result<Kept, AllocError>
     ensures { IfOk result (λ kept. kept ≡ inputs.sps_fields sps.now) }
 {
     keep_all(alloc, &keep_sps(alloc, sps)?)
 }
 
-/// The kept fields of a PPS.
+/// Returns the kept fields of a PPS.
 pub(crate) fn kept_of_pps(alloc: Global, pps: &Pps) -> Result<Kept, AllocError>
     ensures { IfOk result (λ kept. kept ≡ inputs.pps_fields pps.now) }
 {
     keep_all(alloc, &keep_pps(alloc, pps)?)
 }
 
-/// The kept fields of a picture header, in order: [`kept_among`] its items with [`header_fields`].
+/// Returns the kept fields of a picture header, in order: [`kept_among`] its items with [`header_fields`].
+///
+/// # Errors
+///
+/// `AllocError` if memory runs out.
 pub fn kept_of_header(alloc: Global, items: &Fields) -> Result<Kept, AllocError>
     ensures { IfOk result (λ kept. kept ≡ inputs.header_fields items.now) }
 {
@@ -160,7 +169,7 @@ pub fn kept_of_header(alloc: Global, items: &Fields) -> Result<Kept, AllocError>
     kept_among(alloc, items, fields.as_slice())
 }
 
-/// The kept fields of a slice header.
+/// Returns the kept fields of a slice header.
 pub(crate) fn kept_of_slice(alloc: Global, items: &Fields) -> Result<Kept, AllocError>
     ensures { IfOk result (λ kept. kept ≡ inputs.kept_slice_items items.now) }
 {

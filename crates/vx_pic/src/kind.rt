@@ -1,6 +1,6 @@
-//! What a picture is among the pictures of its stream.
+//! The kind of a picture among the pictures of its stream.
 
-/// What a picture is among the pictures of its stream.
+/// The kind of a picture among the pictures of its stream: its type, its TemporalId and its place in output order.
 #[derive(Clone, Copy, Debug, PartialEq, Eq)]
 pub struct Kind {
     /// nal_unit_type of its slices.
@@ -8,9 +8,9 @@ pub struct Kind {
     /// TemporalId.
     pub temporal_id: u8,
     /// Whether it starts a coded layer video sequence: an IDR picture, or a CRA or GDR picture that is the first, or the first
-    /// behind an end of sequence (H.266 7.4.2.4.2).
+    /// after an end of sequence (H.266 7.4.2.4.2).
     pub clvss: bool,
-    /// Whether an end of sequence stands between it and the picture before it.
+    /// Whether an end of sequence comes between the picture before it and this one.
     pub after_eos: bool,
     /// PicOrderCntVal (H.266 8.3.1).
     pub poc: i32,

@@ -1,17 +1,18 @@
-//! Laws of pictures that are joined behind ends of sequence: functions that do nothing, each with a law as its contract.
+//! Laws of pictures that are joined after ends of sequence. A law is a function without a body whose contract states it.
 ghost use Rattle.vx_pic.specs.Joined.{BeginsWhereFirst, JoinedAreFinished, PlayedAreFinished};
 
-/// Behind an end of sequence, pictures from the start of a coded layer video sequence on come behind any others, and keep their counts.
+/// If pictures begin with the start of a coded layer video sequence and come after an end of sequence, then they can follow any
+/// others, and keep their counts.
 pub fn joined_are_finished()
     ensures { JoinedAreFinished }
 {}
 
-/// What is asked of a picture that is written holds of the pictures of files that are joined.
+/// If files are joined, then their pictures have what is required of a picture that is written.
 pub fn played_are_finished()
     ensures { PlayedAreFinished }
 {}
 
-/// A picture is the first of its file exactly where none of this file comes before it.
+/// A picture is the first of its file if and only if none of this file comes before it.
 pub fn begins_where_first()
     ensures { BeginsWhereFirst }
 {}

@@ -1,22 +1,23 @@
-//! Laws of the readers of H.266: functions that do nothing, each with a law as its contract.
+//! Laws of the readers of H.266. A law is a function without a body whose contract states it.
 ghost use Rattle.vx_pic.specs.H266Laws.{HaveOneAnswer, ThereAreReaders};
 ghost use Rattle.vx_pic.specs.laws.AsRead.{ReadersAreAsProgramsRead};
 
 use vx_aps::one_answer;
 
-/// Bytes and sets have one answer at most: readers of H.266 are determined.
+/// If bytes and sets have an answer, then they have no other one: readers of H.266 are determined.
 pub fn readers_are_unique()
     ensures { HaveOneAnswer }
 {
     one_answer();
 }
 
-/// There are readers of H.266: each list of bytes, and any two sets, have an answer.
+/// Readers of H.266 exist: each list of bytes, with any two sets, has an answer.
 pub fn readers_exist()
     ensures { ThereAreReaders }
 {}
 
-/// Readers are those of H.266 exactly where their answers are those that the contracts of readers allow, want of memory aside.
+/// Readers are those of H.266 if and only if their answers are those that the contracts of readers allow, apart from lack of
+/// memory.
 pub fn readers_answer_as_programs()
     ensures { ReadersAreAsProgramsRead }
 {}

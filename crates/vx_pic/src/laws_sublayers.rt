@@ -1,13 +1,13 @@
-//! Laws of the pictures up to a TemporalId (H.266 C.6): functions that do nothing, each with a law as its contract.
+//! Laws of the pictures up to a TemporalId (H.266 C.6). A law is a function without a body whose contract states it.
 ghost use Rattle.vx_pic.specs.Sublayers.{AllAreKept, KeptAreFinished};
 
-/// Where no IRAP or GDR picture is left out, what is asked of a picture that is written holds of each picture that is kept, behind
+/// If no IRAP or GDR picture is left out, then each picture that is kept has what is required of a picture that is written, after
 /// those that are kept before it.
 pub fn kept_are_finished()
     ensures { KeptAreFinished }
 {}
 
-/// Up to TemporalId 6 all pictures are kept.
+/// If the limit is TemporalId 6, then all pictures are kept.
 pub fn all_are_kept()
     ensures { AllAreKept }
 {}

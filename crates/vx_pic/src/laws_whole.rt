@@ -1,16 +1,17 @@
-//! Laws of what the pictures of units have: functions that do nothing, each with a law as its contract.
+//! Laws of the sets and slices of pictures. A law is a function without a body whose contract states it.
 ghost use Rattle.vx_pic.specs.Inputs.{InputsAreShown};
 ghost use Rattle.vx_pic.specs.Whole.{PicturesHaveSets, SlicesAreShown, SubpicturesAreWhole, SubpicturesHaveSlices};
 
 use vx_pps::sets_tell_partitions;
 use vx_sh::{addresses_are_below, slice_scopes_agree};
 
-/// The sets in force for a picture were read.
+/// If sets are in force for a picture, then they were read.
 pub fn pictures_have_sets()
     ensures { PicturesHaveSets }
 {}
 
-/// A picture that was read has of each subpicture the slices of its layout, in the order of their addresses, so one at least.
+/// If a picture was read, then for each subpicture it has the slices of its layout, in the order of their addresses, and so at
+/// least one.
 pub fn subpictures_have_slices()
     ensures some { SubpicturesHaveSlices }
     ensures all { SubpicturesAreWhole }
@@ -21,7 +22,7 @@ pub fn subpictures_have_slices()
     slice_scopes_agree();
 }
 
-/// The decoding inputs of a picture of a stream are those of what callers see of it.
+/// If a picture of a stream is given, then its decoding inputs are those of its model.
 pub fn inputs_are_shown()
     ensures { InputsAreShown }
 {}

@@ -36,13 +36,13 @@ use vx_table::{natural, quotient};
 
 /// The sets have different CTU sizes.
 pub const CTU_SIZE_FAULT: u8 = 1;
-/// The ids of subpictures stand where they aren't wanted, or don't stand where they are, or the sets disagree on them, or two of
+/// The ids of subpictures are where they must not be, or are missing where they must be, or the sets disagree on them, or two of
 /// them are the same.
 pub const IDS_FAULT: u8 = 2;
 
 // ---- ids
 
-/// Whether ids are signalled.
+/// Returns whether ids are signalled.
 fn are_signalled(sps: &Sps) -> bool
     ensures { result ≡ is_set (number sps.now sps_fields.sps_subpic_id_mapping_explicitly_signalled_flag) }
 {
@@ -51,14 +51,14 @@ fn are_signalled(sps: &Sps) -> bool
         != 0
 }
 
-/// Whether the PPS has ids.
+/// Returns whether the PPS has ids.
 fn has_ids(pps: &Pps) -> bool
     ensures { result ≡ is_set (number pps.now pps_fields.pps_subpic_id_mapping_present_flag) }
 {
     pps.scope().latest(pps_subpic_id_mapping_present_flag) != 0
 }
 
-/// The ids in the items of a PPS.
+/// Returns the ids in the items of a PPS.
 #[tactic(auto, using(vx_sps::proofs::Counted::number_more, vx_sps::proofs::Counted::number_passed))]
 fn ids_in(alloc: Global, fields: &Fields) -> Result<IdList, AllocError>
     ensures { IfOk result (λ ids. ids ≡ numbers_of fields.now pps_fields.pps_subpic_id) }
@@ -73,7 +73,7 @@ fn ids_in(alloc: Global, fields: &Fields) -> Result<IdList, AllocError>
     Ok(ids)
 }
 
-/// The ids that the SPS gives.
+/// Returns the ids that the SPS gives.
 #[tactic(auto, using(crate::proofs::Listed::one_more_of))]
 fn ids_by_index(alloc: Global, sps: &Sps) -> Result<IdList, AllocError>
     ensures { IfOk result (λ ids. ids ≡ map (sps_subpic_id_of sps.now) (range_with_len 0 (subpics_of sps.now))) }
@@ -85,7 +85,7 @@ fn ids_by_index(alloc: Global, sps: &Sps) -> Result<IdList, AllocError>
     Ok(ids)
 }
 
-/// The ids of the subpictures.
+/// Returns the ids of the subpictures.
 #[tactic(auto, unfolding(crate::specs::PictureLayout::ids_of))]
 fn ids_under(alloc: Global, sps: &Sps, pps: &Pps) -> Result<IdList, AllocError>
     ensures { IfOk result (λ ids. ids ≡ spec.ids_of sps.now pps.now) }
@@ -97,7 +97,13 @@ fn ids_under(alloc: Global, sps: &Sps, pps: &Pps) -> Result<IdList, AllocError>
     }
 }
 
-/// The ids of the subpictures of a picture with these sets in force, by their index: SubpicIdVal (H.266 7.4.3.5).
+/// Returns the ids of the subpictures of a picture with these sets in force, by their index: SubpicIdVal (H.266 7.4.3.5).
+///
+/// There is one for each subpicture, unless the sets disagree on where the ids are (`ids_misplaced`).
+///
+/// # Errors
+///
+/// `AllocError` if memory runs out.
 pub fn picture_ids(alloc: Global, sps: &Sps, pps: &Pps) -> Result<IdList, AllocError>
     ensures ids { IfOk result (λ ids. ids ≡ spec.ids_of sps.now pps.now) }
     ensures one_each { spec.ids_misplaced sps.now pps.now ≡ false → IfOk result (λ ids. length ids ≡ subpics_of sps.now) }
@@ -109,7 +115,7 @@ pub fn picture_ids(alloc: Global, sps: &Sps, pps: &Pps) -> Result<IdList, AllocE
 
 // ---- what both sets have to agree on
 
-/// Whether the CTU sizes differ.
+/// Returns whether the CTU sizes differ.
 #[tactic(auto, unfolding(crate::specs::PictureLayout::ctu_sizes_differ))]
 fn ctu_sizes_differ(sps: &Sps, pps: &Pps) -> bool
     ensures { result ≡ spec.ctu_sizes_differ sps.now pps.now }
@@ -119,14 +125,14 @@ fn ctu_sizes_differ(sps: &Sps, pps: &Pps) -> bool
             != sps.scope().latest(sps_log2_ctu_size_minus5)
 }
 
-/// Whether the PPS has to have the ids.
+/// Returns whether the PPS must have the ids.
 fn needs_ids(sps: &Sps) -> bool
     ensures { result ≡ spec.needs_ids sps.now }
 {
     are_signalled(sps) && sps.scope().latest(sps_subpic_id_mapping_present_flag) == 0
 }
 
-/// Whether the PPS has other numbers of ids than the SPS, or of other lengths.
+/// Returns whether the PPS has another number of ids than the SPS, or ids of another length.
 fn ids_unlike(sps: &Sps, pps: &Pps) -> bool
     ensures { result ≡ spec.ids_unlike sps.now pps.now }
 {
@@ -135,7 +141,7 @@ fn ids_unlike(sps: &Sps, pps: &Pps) -> bool
         || own.latest(pps_subpic_id_len_minus1) != theirs.latest(sps_subpic_id_len_minus1)
 }
 
-/// Whether there are more subpictures than ids of the SPS's length.
+/// Returns whether there are more subpictures than ids of the SPS's length.
 #[tactic(auto, using(crate::proofs::Sizes::id_length_below, crate::proofs::Sizes::ids_of_length))]
 fn ids_too_short(sps: &Sps) -> bool
     ensures { result ≡ spec.ids_too_short sps.now }
@@ -145,7 +151,7 @@ fn ids_too_short(sps: &Sps) -> bool
     sps.scope().latest(sps_subpic_info_present_flag) != 0 && (1 << bits) < sps.subpics()
 }
 
-/// Whether the ids stand where they aren't wanted, or the other way round, or aren't as the SPS says.
+/// Returns whether the ids are where they must not be, or missing where they must be, or not as the SPS says.
 #[tactic(auto, unfolding(crate::specs::PictureLayout::ids_misplaced))]
 fn ids_misplaced(sps: &Sps, pps: &Pps) -> bool
     ensures { result ≡ spec.ids_misplaced sps.now pps.now }
@@ -154,14 +160,14 @@ fn ids_misplaced(sps: &Sps, pps: &Pps) -> bool
     here != needs_ids(sps) || (here && ids_unlike(sps, pps)) || ids_too_short(sps)
 }
 
-/// The set of these ids.
+/// Returns the set of these ids.
 fn set_of_ids(alloc: Global, ids: &[u32]) -> Result<BTreeSet<u32>, AllocError>
     ensures { IfOk result (sorted.IsFromIterResult nat_cmp ids.now) }
 {
     ids.iter().copied().collect(alloc)
 }
 
-/// Whether no two subpictures have one id. Time goes with their number and its logarithm.
+/// Returns whether no two subpictures have the same id. Takes time with their number times its logarithm.
 fn are_distinct(alloc: Global, ids: &IdList) -> Result<bool, AllocError>
     ensures distinct { IfOk result (λ holds. OnTrue holds (spec.AreDistinct ids.now)) }
     ensures doubled { IfOk result (λ holds. OnFalse holds (¬ spec.AreDistinct ids.now)) }
@@ -170,7 +176,7 @@ fn are_distinct(alloc: Global, ids: &IdList) -> Result<bool, AllocError>
     Ok(distinct.len() == ids.len())
 }
 
-/// Whether both sets agree on the ids.
+/// Returns whether both sets agree on the ids.
 fn ids_agree(alloc: Global, sps: &Sps, pps: &Pps) -> Result<bool, AllocError>
     ensures agree { IfOk result (λ holds. OnTrue holds (spec.IdsAgree sps.now pps.now)) }
     ensures disagree { IfOk result (λ holds. OnFalse holds (¬ spec.IdsAgree sps.now pps.now)) }
@@ -184,7 +190,7 @@ fn ids_agree(alloc: Global, sps: &Sps, pps: &Pps) -> Result<bool, AllocError>
 
 // ---- tiles, slices and subpictures
 
-/// The bounds of one tile.
+/// Returns the bounds of one tile.
 #[tactic(auto, using(crate::proofs::Sizes::one_tile_rises))]
 fn one_tile(alloc: Global, size: u32) -> Result<Bounds, AllocError>
     requires { 0 < size }
@@ -196,7 +202,7 @@ fn one_tile(alloc: Global, size: u32) -> Result<Bounds, AllocError>
     Ok(bounds)
 }
 
-/// The same bounds.
+/// Returns a copy of bounds.
 #[tactic(auto, using(crate::proofs::Listed::bound_more, crate::proofs::Listed::bounds_rise))]
 fn copied(alloc: Global, bounds: &Bounds) -> Result<Bounds, AllocError>
     ensures { IfOk result (λ copy. copy ≡ bounds.now) }
@@ -208,7 +214,7 @@ fn copied(alloc: Global, bounds: &Bounds) -> Result<Bounds, AllocError>
     Ok(copy)
 }
 
-/// The columns and rows of CTUs.
+/// Returns the numbers of columns and rows of CTUs.
 #[tactic(auto, using(crate::proofs::Sizes::has_ctus))]
 fn size_in_ctus(sps: &Sps) -> (u32, u32)
     ensures columns { result.0 ≡ set.ctu_columns_of sps.now }
@@ -221,7 +227,7 @@ fn size_in_ctus(sps: &Sps) -> (u32, u32)
     (quotient(sps.width(), ctb), quotient(sps.height(), ctb))
 }
 
-/// The subpictures.
+/// Returns the subpictures.
 #[tactic(auto, using(crate::proofs::Listed::one_more_of))]
 fn subpictures(alloc: Global, sps: &Sps) -> Result<RectList, AllocError>
     ensures { IfOk result (λ rects. rects ≡ spec.subpictures_of sps.now) }
@@ -233,7 +239,7 @@ fn subpictures(alloc: Global, sps: &Sps) -> Result<RectList, AllocError>
     Ok(rects)
 }
 
-/// The bounds of the tile columns and rows.
+/// Returns the bounds of the tile columns and rows.
 fn tile_bounds(alloc: Global, sps: &Sps, pps: &Pps) -> Result<(Bounds, Bounds), AllocError>
     ensures columns { IfOk result (λ bounds. bounds.0 ≡ spec.columns_in_picture sps.now pps.now) }
     ensures rows { IfOk result (λ bounds. bounds.1 ≡ spec.rows_in_picture sps.now pps.now) }
@@ -245,7 +251,7 @@ fn tile_bounds(alloc: Global, sps: &Sps, pps: &Pps) -> Result<(Bounds, Bounds), 
     Ok((one_tile(alloc, columns)?, one_tile(alloc, rows)?))
 }
 
-/// The slices, where these are the subpictures.
+/// Returns the slices, which may be the subpictures.
 fn slices(alloc: Global, sps: &Sps, pps: &Pps, subpics: &RectList) -> Result<RectList, AllocError>
     requires { subpics.now ≡ spec.subpictures_of sps.now }
     ensures { IfOk result (λ rects. rects ≡ spec.slices_in_picture sps.now pps.now) }
@@ -261,7 +267,7 @@ fn slices(alloc: Global, sps: &Sps, pps: &Pps, subpics: &RectList) -> Result<Rec
     Ok(rects)
 }
 
-/// Tiles, slices and subpictures.
+/// Returns tiles, slices and subpictures.
 fn numbers_in(alloc: Global, sps: &Sps, pps: &Pps) -> Result<Numbers, AllocError>
     ensures value { IfOk result (λ numbers. numbers ≡ spec.numbers_in sps.now pps.now) }
     ensures limits { IfOk result IsInLimits }
@@ -282,7 +288,7 @@ fn numbers_in(alloc: Global, sps: &Sps, pps: &Pps) -> Result<Numbers, AllocError
 
 // ---- the layout
 
-/// The refusal that names a fault.
+/// Returns the refusal that names a fault.
 fn fault(id: u8) -> ReadError
     ensures { result ≡ Refused (spec.layout_refusal id) }
 {
@@ -293,7 +299,7 @@ fn fault(id: u8) -> ReadError
     })
 }
 
-/// The layout of numbers.
+/// Returns the layout of numbers.
 fn layout_of(alloc: Global, numbers: Numbers) -> Result<Layout, ReadError>
     requires { IsInLimits numbers }
     ensures { IsLayoutOf numbers result }
@@ -305,11 +311,12 @@ fn layout_of(alloc: Global, numbers: Numbers) -> Result<Layout, ReadError>
     }
 }
 
-/// The layout of a picture with these sets in force.
+/// Returns the layout of a picture with these sets in force.
 ///
 /// # Errors
 ///
-/// The lowest fault: [`CTU_SIZE_FAULT`], [`IDS_FAULT`], or one of those of a layout; want of memory.
+/// - `Refused` with the lowest fault: [`CTU_SIZE_FAULT`], [`IDS_FAULT`], or one of a layout.
+/// - `Memory` if memory runs out.
 pub fn picture_layout(alloc: Global, sps: &Sps, pps: &Pps) -> Result<Layout, ReadError>
     ensures answer { spec.AnswersLayout sps.now pps.now result }
     ensures limits { IfOk result IsInLimits }

@@ -6,7 +6,7 @@ ghost use Rattle.vx_table.specs.Loaded as told;
 use vx_bits::{Fields, Item};
 use vx_table::natural;
 
-/// The number of a field behind an item, of which it was `latest` before.
+/// Returns the number of a field after an item; before the item it was `latest`.
 fn number_behind(latest: u32, field: u16, item: Item) -> u32
     ensures { result ≡ cond (item.field == field) (scopes.natural item.value) latest }
 {
@@ -17,11 +17,12 @@ fn number_behind(latest: u32, field: u16, item: Item) -> u32
     }
 }
 
-/// The numbers of fields are those below this one.
+/// The numbers of fields are below this one.
 const FIELDS: u16 = 1024;
 
-/// A field's number: its last item's, and 0 where it has none. It is the number that a fresh scope has for the field behind all items,
-/// without the cost of a scope.
+/// Returns the number of a field's last item, or 0 if it has none.
+///
+/// It is the number that a fresh scope has for the field after all items, without the cost of a scope.
 #[tactic(auto, using(crate::proofs::FieldNumbers::number_past, crate::proofs::FieldNumbers::number_step, crate::proofs::FieldNumbers::number_all))]
 pub fn number_of(fields: &Fields, field: u16) -> u32
     ensures { result ≡ told.number fields.now field }

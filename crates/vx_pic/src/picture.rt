@@ -1,4 +1,4 @@
-//! A picture, as it is handed on.
+//! A picture, as readers return it.
 
 use crate::aps_list::ApsList;
 use crate::kind::Kind;
@@ -11,37 +11,37 @@ use vx_sei::MessageList;
 use vx_sh::SliceHeader;
 use vx_sps::Sps;
 
-/// A slice, as it is lent.
+/// A slice, as a picture lends it.
 #[derive(Clone, Copy)]
 pub struct SliceView<'a> {
     /// Its header.
     pub header: &'a SliceHeader,
     /// Its NAL unit.
     pub unit: &'a [u8],
-    /// The bytes of the unit behind the slice header.
+    /// The bytes of the unit after the slice header.
     pub payload: &'a [u8],
 }
 
-/// A slice, as it is kept: its header, and where its unit stands in the bytes of its picture.
+/// A slice, as it is stored: its header, and the place of its unit in the bytes of its picture.
 #[derive(Drop)]
 pub struct SliceSlot {
     /// Its header.
     pub header: SliceHeader,
-    /// Where its unit begins.
+    /// The place where its unit begins.
     pub start: usize,
-    /// Where the bytes behind its header begin.
+    /// The place where the bytes after its header begin.
     pub payload: usize,
-    /// Where its unit ends.
+    /// The place where its unit ends.
     pub end: usize,
 }
 
-/// The slices of a picture, in order.
+/// A list of the slices of a picture, in order.
 pub type SliceSlots = LentList<SliceSlot>;
 
-/// What a picture is made of.
+/// The parts of a picture.
 #[derive(Clone, Copy)]
 pub struct PictureParts<'a> {
-    /// What it is among the pictures of its stream.
+    /// Its kind among the pictures of its stream.
     pub kind: Kind,
     /// Its SPS.
     pub sps: &'a Sps,
@@ -53,9 +53,9 @@ pub struct PictureParts<'a> {
     pub header: &'a PictureHeader,
     /// The ids of its subpictures, by their index.
     pub ids: &'a IdList,
-    /// The bytes of its PH unit, where it has one, and of its slices' units.
+    /// The bytes of its PH unit, if it has one, and of its slices' units.
     pub bytes: &'a [u8],
-    /// Where the PH unit ends, which begins at 0; 0 where the picture header stands inside the slice.
+    /// The place where the PH unit ends, which begins at 0; 0 if the picture header is inside the slice.
     pub header_end: usize,
     /// Its slices.
     pub slices: &'a SliceSlots,
@@ -67,7 +67,8 @@ pub struct PictureParts<'a> {
 
 /// A whole picture of a stream. None of its calls takes memory.
 ///
-/// It is seen as the record of what they answer.
+/// Its two sets have the same size and make up its layout and its ids. Its header was read under them, and each slice header
+/// under them and the header. Its adaptation parameter sets are valid. *Model:* a record of the values that its calls return.
 #[derive(Drop)]
 pub struct Picture<'a> {
     parts: PictureParts<'a>,
@@ -96,7 +97,7 @@ impl<'a> Picture<'a> {
     ghost use Rattle.vx_pic.specs.Parts.{seen, MakePicture, IsReadAt, aps_at, part_of, AreThere, aps_named_by, read_of};
     ghost use Rattle.vx_pic.specs.Inputs.{body_of};
 
-    /// The picture that these parts make up.
+    /// Returns the picture that these parts make up.
     pub fn of(parts: PictureParts<'a>) -> Picture<'a>
         requires { MakePicture parts }
         ensures { result ≡ seen parts.entry }
@@ -104,7 +105,7 @@ impl<'a> Picture<'a> {
         Picture { parts }
     }
 
-    /// The same picture behind an end of sequence.
+    /// Returns the same picture after an end of sequence.
     pub fn after_end(&self) -> Picture<'a>
         ensures { result ≡ record self.now { kind = record self.now.kind { after_eos = true } } }
     {
@@ -117,7 +118,7 @@ impl<'a> Picture<'a> {
         }
     }
 
-    /// What it is among the pictures of its stream.
+    /// Returns its kind among the pictures of its stream.
     pub fn kind(&self) -> Kind
         ensures value { result ≡ self.now.kind }
         ensures nal_type { result.nal_type < 32 }
@@ -126,21 +127,21 @@ impl<'a> Picture<'a> {
         self.parts.kind
     }
 
-    /// Its SPS.
+    /// Returns its SPS.
     pub fn sps(&self) -> &'a Sps
         ensures { result.now ≡ self.now.sps }
     {
         self.parts.sps
     }
 
-    /// Its PPS.
+    /// Returns its PPS.
     pub fn pps(&self) -> &'a Pps
         ensures { result.now ≡ self.now.pps }
     {
         self.parts.pps
     }
 
-    /// Its tiles, slices and subpictures, as its two sets make them up.
+    /// Returns its tiles, slices and subpictures, as its two sets determine them.
     pub fn layout(&self) -> &'a Layout
         ensures value { result.now ≡ self.now.layout }
         ensures sets { self.now.layout ≡ numbers_in self.now.sps self.now.pps }
@@ -150,7 +151,7 @@ impl<'a> Picture<'a> {
         self.parts.layout
     }
 
-    /// Its header.
+    /// Returns its header.
     pub fn header(&self) -> &'a PictureHeader
         ensures value { result.now ≡ self.now.header }
         ensures read { IsHeader (structures self.now.sps) (in_force self.now.sps self.now.pps) self.now.header }
@@ -158,7 +159,7 @@ impl<'a> Picture<'a> {
         self.parts.header
     }
 
-    /// The ids of its subpictures, by their index.
+    /// Returns the ids of its subpictures, by their index.
     pub fn ids(&self) -> &'a IdList
         ensures ids { result.now ≡ self.now.ids }
         ensures sets { self.now.ids ≡ ids_of self.now.sps self.now.pps }
@@ -167,7 +168,7 @@ impl<'a> Picture<'a> {
         self.parts.ids
     }
 
-    /// Its PH unit, where it has one: none where the picture header stands inside the slice.
+    /// Returns its PH unit, or `None` if the picture header is inside the slice.
     pub fn header_unit(&self) -> Option<&'a [u8]>
         ensures { option_copied result ≡ self.now.unit }
     {
@@ -177,7 +178,7 @@ impl<'a> Picture<'a> {
         Some(&self.parts.bytes[..self.parts.header_end])
     }
 
-    /// The number of its slices, at most 1,000: all those of its layout.
+    /// Returns the number of its slices, at most 1,000: all those of its layout.
     pub fn slice_count(&self) -> u32
         ensures number { result ≡ length self.now.slices }
         ensures whole { result ≡ length self.now.layout.slices }
@@ -187,7 +188,7 @@ impl<'a> Picture<'a> {
         self.parts.slices.len() as u32
     }
 
-    /// A slice, in the order of the picture, counted from 0.
+    /// Returns slice `i`, from 0 in the order of the picture.
     #[tactic(auto, using(crate::proofs::Spans::suffix))]
     pub fn slice(&self, i: u32) -> SliceView<'a>
         requires { i < length self.now.slices }
@@ -207,7 +208,7 @@ impl<'a> Picture<'a> {
         }
     }
 
-    /// The body of an adaptation parameter set, by its type and id, as it was stored before the first slice.
+    /// Returns the body of an adaptation parameter set, by its type and id, as it was stored before the first slice.
     pub fn body(&self, kind: u8, id: u8) -> Option<&'a [u8]>
         ensures body { option_copied result ≡ option_map (λ aps. aps.body) (aps_at self.now.bodies kind id) }
         ensures some { IfSome result (λ body. 0 < length body.now) }
@@ -219,7 +220,7 @@ impl<'a> Picture<'a> {
         }
     }
 
-    /// The body of an adaptation parameter set, by its type and an id of any size.
+    /// Returns the body of an adaptation parameter set, by its type and an id of any size.
     pub(crate) fn body_of(&self, kind: u8, id: u32) -> Option<&'a [u8]>
         ensures { option_copied result ≡ body_of self.now kind id }
     {
@@ -229,7 +230,7 @@ impl<'a> Picture<'a> {
             .map(|aps| aps.body.as_slice())
     }
 
-    /// The items of its SPS.
+    /// Returns the items of its SPS.
     pub(crate) fn sps_fields(&self) -> &'a Fields
         ensures items { result.now ≡ self.now.sps }
         ensures set { AreSpsItems result.now }
@@ -237,7 +238,7 @@ impl<'a> Picture<'a> {
         self.parts.sps.fields()
     }
 
-    /// The rectangle of a subpicture, in CTUs.
+    /// Returns the rectangle of a subpicture, in CTUs.
     #[tactic(auto, using(crate::proofs::Ranges::within_sps))]
     pub(crate) fn rect(&self, subpic: u32) -> Rect
         requires { subpic < length self.now.layout.subpics }
@@ -246,7 +247,7 @@ impl<'a> Picture<'a> {
         self.parts.sps.rect(subpic)
     }
 
-    /// Its messages.
+    /// Returns its messages.
     pub fn messages(&self) -> &'a MessageList
         ensures { result.now ≡ self.now.messages }
     {

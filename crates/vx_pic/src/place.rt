@@ -21,13 +21,13 @@ pub struct Place {
     pub layout: Numbers,
     /// The address of the slice in it.
     pub address: u32,
-    /// Whether in-loop filters cross the borders of its tiles; false where it has one.
+    /// Whether in-loop filters cross the borders of its tiles; false if it has only one.
     pub across_tiles: bool,
-    /// Whether in-loop filters cross the borders of its slices; false where it has one.
+    /// Whether in-loop filters cross the borders of its slices; false if it has only one.
     pub across_slices: bool,
 }
 
-/// The luma samples of `size` CTUs from `from` on, in a picture of `total` samples.
+/// Returns the luma samples of `size` CTUs from `from` on, in a picture of `total` samples.
 pub fn luma_size_of(from: u32, size: u32, ctb: u32, total: u32) -> u32
     ensures { result ≡ luma_size from size ctb total }
 {
@@ -36,28 +36,28 @@ pub fn luma_size_of(from: u32, size: u32, ctb: u32, total: u32) -> u32
     end.saturating_sub(u64::from(from) * u64::from(ctb)) as u32
 }
 
-/// Whether a layout has several tiles.
+/// Returns whether a layout has several tiles.
 pub fn several_tiles(layout: &Numbers) -> bool
     ensures { result ≡ has_several_tiles layout.now }
 {
     layout.columns.len() > 2 || layout.rows.len() > 2
 }
 
-/// Whether a layout has several slices.
+/// Returns whether a layout has several slices.
 pub fn several_slices(layout: &Numbers) -> bool
     ensures { result ≡ has_several_slices layout.now }
 {
     layout.slices.len() > 1
 }
 
-/// Whether in-loop filters cross borders, by their flag, where there are any.
+/// Returns whether in-loop filters cross borders, by their flag, if there are any.
 fn crosses(several: bool, flag: u32) -> bool
     ensures { result ≡ (several && is_set flag) }
 {
     several && flag != 0
 }
 
-/// The place of the slice at an address of a subpicture.
+/// Returns the place of the slice at an address of a subpicture.
 pub(crate) fn place_of(
     alloc: Global,
     picture: &Picture<'_>,

@@ -1,6 +1,6 @@
-//! The kinds of sets that a refusal for a missing one names.
+//! The kinds of sets that a refusal for a missing set names.
 
-/// A sequence parameter set; below stand the types of adaptation parameter sets.
+/// A sequence parameter set. Lower numbers are the types of adaptation parameter sets.
 pub const SPS: u8 = 3;
 /// A picture parameter set.
 pub const PPS: u8 = 4;

@@ -1,4 +1,4 @@
-//! What pictures with the same SPS and PPS are known by.
+//! The identity of pictures with the same SPS and PPS.
 ghost use Rattle.std.specs.Prelude.{◌≡◌, IfOk, option_copied};
 ghost use Rattle.std.specs.Bool.{OnTrue};
 ghost use Rattle.vx_pic.specs.inner.Keyed.{AreSameRbsp};
@@ -10,7 +10,7 @@ use vx_bits::{Bytes, CopyList, Fields, is_rbsp};
 use vx_pps::Pps;
 use vx_sps::Sps;
 
-/// An RBSP once more, where there is one.
+/// Returns a copy of an RBSP, if there is one.
 fn copied_rbsp(alloc: Global, rbsp: Option<&Bytes>) -> Result<Option<Bytes>, AllocError>
     ensures { IfOk result (λ copy. copy ≡ option_copied rbsp.entry) }
 {
@@ -21,7 +21,7 @@ fn copied_rbsp(alloc: Global, rbsp: Option<&Bytes>) -> Result<Option<Bytes>, All
     Ok(Some(copy))
 }
 
-/// Whether two RBSPs are there, and the same.
+/// Returns whether both RBSPs are known, and the same.
 fn is_same_rbsp(known: Option<&Bytes>, other: Option<&Bytes>) -> bool
     ensures { OnTrue result (AreSameRbsp (option_copied known.entry) (option_copied other.entry)) }
 {
@@ -31,9 +31,9 @@ fn is_same_rbsp(known: Option<&Bytes>, other: Option<&Bytes>) -> bool
     }
 }
 
-/// What pictures with the same SPS and PPS are known by: the items of both sets, and their RBSPs where these are known. It is seen as the items.
+/// Identifies an SPS and PPS pair, to find out cheaply whether two pictures have the same sets.
 ///
-/// Where the RBSPs are the same, so are the items, and these aren't compared.
+/// Compares the RBSPs if both are known, and otherwise the items. *Model:* the items.
 #[derive(Drop)]
 pub struct SetsKey {
     sps: Fields,
@@ -60,11 +60,11 @@ impl SetsKey {
     ghost use Rattle.std.specs.Prelude.{◌≡◌, ◌&&◌, IfOk};
     ghost use Rattle.vx_pic.specs.Sets as sets;
 
-    /// The key of these sets.
+    /// Returns the key of these sets.
     ///
     /// # Errors
     ///
-    /// Where memory runs out.
+    /// `AllocError` if memory runs out.
     pub fn new(alloc: Global, sps: &Sps, pps: &Pps) -> Result<SetsKey, AllocError>
         ensures { IfOk result (λ key. key ≡ record { sps = sps.now; pps = pps.now }) }
     {
@@ -76,7 +76,7 @@ impl SetsKey {
         })
     }
 
-    /// Whether an SPS has the items of the key's.
+    /// Returns whether an SPS has the items of the key's.
     fn has_sps(&self, sps: &Sps) -> bool
         ensures { result ≡ sets.same_items self.now.sps sps.now }
     {
@@ -86,7 +86,7 @@ impl SetsKey {
         same_items(self.sps.as_slice(), sps.fields().as_slice())
     }
 
-    /// Whether a PPS has the items of the key's.
+    /// Returns whether a PPS has the items of the key's.
     fn has_pps(&self, pps: &Pps) -> bool
         ensures { result ≡ sets.same_items self.now.pps pps.now }
     {
@@ -96,7 +96,7 @@ impl SetsKey {
         same_items(self.pps.as_slice(), pps.fields().as_slice())
     }
 
-    /// Whether these sets have the items of the key's. It takes no memory.
+    /// Returns whether these sets have the items of the key's. Takes no memory.
     pub fn is_of(&self, sps: &Sps, pps: &Pps) -> bool
         ensures { result ≡ (sets.same_items self.now.sps sps.now && sets.same_items self.now.pps pps.now) }
     {

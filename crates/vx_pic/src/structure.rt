@@ -1,4 +1,4 @@
-//! The fields of the structure that a unit is.
+//! The fields of the structure that a unit contains.
 ghost use Rattle.std.specs.Prelude.{◌≡◌};
 ghost use Rattle.vx_pic.specs.Shown.{no_fields};
 
@@ -18,23 +18,23 @@ pub enum Structure {
     Aps,
     /// A picture header that is a unit of its own.
     PictureHeader,
-    /// A slice header, with the picture header that may stand inside.
+    /// A slice header, with a picture header that may be inside.
     SliceHeader,
 }
 
-/// The fields that a unit spells, up to the first that is refused.
+/// The fields of a unit, up to the first that is refused.
 #[derive(Drop)]
 pub struct StructureFields {
-    /// What it is; None of a unit that is none of these structures, or of which nothing can be read.
+    /// The structure; `None` for a unit with none of these structures, or of which nothing can be read.
     pub structure: Option<Structure>,
     /// The items of its fields, in the order of the bits.
     pub items: Fields,
-    /// How many bytes the body of an adaptation parameter set has.
+    /// The number of bytes of the body of an adaptation parameter set.
     pub body: Option<usize>,
 }
 
 impl StructureFields {
-    /// Those of no structure. Takes no memory.
+    /// Returns the fields of no structure. Takes no memory.
     pub fn new(alloc: Global) -> StructureFields
         ensures { result ≡ no_fields }
     {

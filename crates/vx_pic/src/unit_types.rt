@@ -1,4 +1,4 @@
-//! The types of NAL units that are looked at (H.266 7.4.2.2, Table 5), by their names there.
+//! The types of NAL units that are used (H.266 7.4.2.2, Table 5), by their names there.
 ghost use Rattle.std.specs.Prelude.{◌≡◌};
 ghost use Rattle.vx_pic.specs.Units as units;
 
@@ -26,7 +26,7 @@ pub const SPS_NUT: u8 = 15;
 pub const PPS_NUT: u8 = 16;
 /// An adaptation parameter set before the slices that use it.
 pub const PREFIX_APS_NUT: u8 = 17;
-/// An adaptation parameter set that may stand behind slices.
+/// An adaptation parameter set that may come after slices.
 pub const SUFFIX_APS_NUT: u8 = 18;
 /// A picture header.
 pub const PH_NUT: u8 = 19;
@@ -37,21 +37,21 @@ pub const EOB_NUT: u8 = 22;
 /// Supplemental enhancement information before the slices of a picture.
 pub const PREFIX_SEI_NUT: u8 = 23;
 
-/// Whether it is the type of an IDR picture.
+/// Returns whether it is the type of an IDR picture.
 pub fn is_idr(nal_type: u8) -> bool
     ensures { result ≡ units.is_idr nal_type }
 {
     nal_type == IDR_W_RADL || nal_type == IDR_N_LP
 }
 
-/// Whether it is the type of a CRA or GDR picture.
+/// Returns whether it is the type of a CRA or GDR picture.
 pub fn is_cra_or_gdr(nal_type: u8) -> bool
     ensures { result ≡ units.is_cra_or_gdr nal_type }
 {
     nal_type == CRA_NUT || nal_type == GDR_NUT
 }
 
-/// Whether it is the type of an IRAP or GDR picture.
+/// Returns whether it is the type of an IRAP or GDR picture.
 pub fn is_irap_or_gdr(nal_type: u8) -> bool
     ensures { result ≡ units.is_irap_or_gdr nal_type }
 {

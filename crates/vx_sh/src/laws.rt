@@ -23,7 +23,7 @@ pub fn slices_keep()
     ensures kept { KeptAreShown }
 {}
 
-/// If the same bits are read at scopes that agree, then they are the same slice header; and there is exactly one header with its
+/// If the same bits are read at scopes that agree, then they are the same slice header; and there is a header with its
 /// kept fields and given other fields.
 pub fn slices_go_again()
     ensures read { SlicesReadAgain }
