@@ -1,4 +1,4 @@
-//! The assembler.
+//! The assembler of pictures.
 ghost use Rattle.std.specs.Prelude.{◌≡◌, [], List};
 
 use crate::fault::{AssembleFault, First};
@@ -12,15 +12,16 @@ use vx_pic::{Accepted, Lender, Picture, StructureFields};
 use vx_pps::Pps;
 use vx_sps::Sps;
 
-/// Takes NAL units in order, and hands on each picture with its last slice.
+/// A builder of pictures: it takes NAL units in order, and lends each picture once its last slice is taken.
 ///
-/// Beside the sets in force it keeps one picture of at most 2^25 bytes, and messages of at most 65,536 bytes for it and for the
-/// next. After a refusal, or for want of memory, it takes no more units.
+/// It holds the sets in force, one picture of at most 2^25 bytes, and messages of at most 65,536 bytes each for that picture and
+/// for the next one. It stores at most 16 SPSs, 64 PPSs, 8 ALF, 4 LMCS and 8 scaling sets; the picture under way refers to at
+/// most as many of these last three. After a refusal or lack of memory it takes no more units.
 #[derive(Drop)]
 pub struct Assembler {
     alloc: Global,
     state: State,
-    // What was told of the last unit that was handed in.
+    // The result for the last unit that was handed in.
     told: Accepted,
     first: Option<First>,
 }
@@ -48,7 +49,7 @@ impl Assembler {
     ghost use Rattle.vx_assemble.specs.Held.{Stands, Takes, Ends, told, HasPicture, IsBounded, ShowsLatest, lent_by, first_fault, first_of, IsSet, items_of};
     ghost use Rattle.vx_pic.specs.Readings.{pictures};
 
-    /// An assembler that took no units. It takes no memory yet.
+    /// Returns an assembler that took no units. Takes no memory yet.
     pub fn new(alloc: Global) -> Assembler
         ensures stands { Stands result [] }
         ensures bounded { IsBounded result }
@@ -62,12 +63,13 @@ impl Assembler {
         }
     }
 
-    /// Takes a unit, as framing gives it, and tells what it is. The picture lent before is given up.
+    /// Takes a unit, as framing returns it, and returns what it is. The picture lent before becomes invalid.
     ///
     /// # Errors
     ///
-    /// `Refused` with the first rule that the unit breaks behind those before it, or want of memory; `Stopped` with the first
-    /// of these from then on, and only then.
+    /// - `Refused` with the first rule that the unit breaks, after those before it.
+    /// - `Memory` if memory runs out.
+    /// - `Stopped` with the first of these in every later call, and only then.
     pub fn accept(&mut self, unit: &[u8]) -> Result<Accepted, AssembleFault>
         requires { IsSound unit.now }
         ensures answer { (R : Readers) → AreOfH266 R → (before : List Reading) → Stands self.old before
@@ -100,14 +102,19 @@ impl Assembler {
         }
     }
 
-    /// The fields of no structure.
+    /// Returns the fields of no structure.
     pub(crate) fn no_fields(&self) -> StructureFields
         ensures { result ≡ no_fields }
     {
         StructureFields::new(self.alloc)
     }
 
-    /// The fields that a unit spells, as framing gives it, behind those that were taken: all, or those before the first that is refused.
+    /// Returns the fields of a unit, as framing returns it, after the units taken: all, or those before the first that is
+    /// refused.
+    ///
+    /// # Errors
+    ///
+    /// `AllocError` if memory runs out.
     pub fn unit_fields(&self, unit: &[u8]) -> Result<StructureFields, AllocError>
         requires { IsSound unit.now }
         ensures { IfOk result (λ f. (R : Readers) (h : AreOfH266 R) (before : List Reading) → Stands self.now before
@@ -117,11 +124,12 @@ impl Assembler {
         Ok(read)
     }
 
-    /// Says that the units are all there are.
+    /// Ends the stream: the units taken so far are all there are.
     ///
     /// # Errors
     ///
-    /// SLICE_MISSING where a picture lacks a slice; `Stopped` with the first fault before.
+    /// - `Refused` with SLICE_MISSING if a picture lacks a slice.
+    /// - `Stopped` with the first fault before.
     pub fn finish(&mut self) -> Result<(), AssembleFault>
         ensures answer { (before : List Reading) → Stands self.old before → Ends before result }
         ensures same { OnOk result (self.new ≡ self.old) }
@@ -145,7 +153,8 @@ impl Assembler {
         Ok(())
     }
 
-    /// The items of the set that was taken last, where that was told as `what`; None where it wasn't, or no set was taken last.
+    /// Returns the items of the set that was taken last, if `what` is its result; otherwise, or after another unit, `None`.
+    ///
     /// Those of an APS are its type and its id.
     pub fn fields(&self, what: Accepted) -> Option<&Fields>
         ensures taken { (r : Reading) (before : List Reading) → Stands self.now (r ∷ before) → what ≡ told_of r before
@@ -163,21 +172,21 @@ impl Assembler {
         }
     }
 
-    /// The SPS of an id, where one is stored.
+    /// Returns the stored SPS with an id, or `None`.
     pub fn sps(&self, id: u8) -> Option<&Sps>
         ensures { (before : List Reading) → Stands self.now before → option_copied result ≡ stored_sps id before }
     {
         Some(self.state.sps_of(id)?.value())
     }
 
-    /// The PPS of an id, where one is stored.
+    /// Returns the stored PPS with an id, or `None`.
     pub fn pps(&self, id: u8) -> Option<&Pps>
         ensures { (before : List Reading) → Stands self.now before → option_copied result ≡ stored_pps id before }
     {
         Some(self.state.pps_of(id)?.value())
     }
 
-    /// The picture whose last slice was taken last. It takes no memory.
+    /// Returns the picture whose last slice was taken last. Takes no memory.
     pub fn picture(&self) -> Picture<'_>
         requires { HasPicture self.now }
         ensures lent { result ≡ lent_by self.now }

@@ -22,7 +22,7 @@ use vx_pic::{PPS, SPS};
 use vx_pps::Pps;
 use vx_sps::Sps;
 
-/// The two sets that a picture header refers to.
+/// The two sets to which a picture header refers.
 #[derive(Drop)]
 pub(crate) struct SetPair {
     /// The SPS.
@@ -31,11 +31,11 @@ pub(crate) struct SetPair {
     pub pps: Shared<Pps>,
 }
 
-/// What is kept of a picture that begins: the sets of its header, and the bytes of its PH unit.
+/// Returns what is kept of a picture that begins: the sets of its header, and the bytes of its PH unit.
 ///
 /// # Errors
 ///
-/// Where memory runs out.
+/// `AllocError` if memory runs out.
 fn kept_of(
     alloc: Global,
     begun: &BegunPicture,
@@ -55,11 +55,12 @@ fn kept_of(
 }
 
 impl State {
-    /// The sets that a PPS id refers to.
+    /// Returns the sets to which a PPS id refers.
     ///
     /// # Errors
     ///
-    /// The first that isn't stored is missing; want of memory.
+    /// - `Refused` with the first set that isn't stored.
+    /// - `Memory` if memory runs out.
     #[tactic(auto, unfolding(vx_pic::specs::Sets::referred_sps))]
     fn sets_of(&self, id: u8) -> Result<SetPair, ReadError>
         ensures { Gives (sets_kept self.now id) result }
@@ -76,7 +77,7 @@ impl State {
         Ok(SetPair { sps, pps })
     }
 
-    /// Whether what the sets that a PPS id refers to make up is kept.
+    /// Returns whether what the sets of a PPS id make up is kept.
     fn has_made(&self, id: u8) -> bool
         ensures { result ≡ changes.is_made id self.now.made }
     {
@@ -86,7 +87,7 @@ impl State {
         }
     }
 
-    /// The sets that a PPS id refers to, where what they make up is kept.
+    /// Returns the sets to which a PPS id refers, if what they make up is kept.
     fn made_of(&self, id: u8) -> Option<&Shared<InForce>>
         requires { IsInOrder self.now }
         ensures { IfSome result (λ sets. AreInForce self.now id sets.now) }
@@ -97,11 +98,12 @@ impl State {
         }
     }
 
-    /// The sets that a PPS id refers to, and what they make up: as it is kept, or made anew.
+    /// Returns the sets to which a PPS id refers, and what they make up: as it is kept, or computed now.
     ///
     /// # Errors
     ///
-    /// The first set that isn't stored is missing; SIZE_DIFFERS, or the lowest fault of the layout; want of memory.
+    /// - `Refused` with the first set that isn't stored, with SIZE_DIFFERS, or with the lowest fault of the layout.
+    /// - `Memory` if memory runs out.
     fn in_force(&self, alloc: Global, id: u8) -> Result<Shared<InForce>, ReadError>
         requires { IsInOrder self.now }
         ensures sets { IfOk result (AreInForce self.now id) }
@@ -117,11 +119,12 @@ impl State {
         Ok(sets)
     }
 
-    /// The picture header of a PH unit, or of a slice that has it inside, with what is in force for it.
+    /// Returns the picture header of a PH unit, or of a slice that has it inside, with what is in force for it.
     ///
     /// # Errors
     ///
-    /// The first rule that it breaks; want of memory.
+    /// - `Refused` with the first rule that it breaks.
+    /// - `Memory` if memory runs out.
     pub(crate) fn begin(
         &self,
         alloc: Global,
@@ -149,11 +152,12 @@ impl State {
         })
     }
 
-    /// The picture header inside a slice, with what is in force for it.
+    /// Returns the picture header inside a slice, with what is in force for it.
     ///
     /// # Errors
     ///
-    /// The first rule that it breaks; want of memory.
+    /// - `Refused` with the first rule that it breaks.
+    /// - `Memory` if memory runs out.
     pub(crate) fn begin_alone(
         &self,
         alloc: Global,
@@ -173,12 +177,12 @@ impl State {
         self.begin(alloc, whole, true)
     }
 
-    /// Begins a picture with a header that came in this PH unit, or in none, and keeps what is in force for it, and whether its SPS is known
-    /// to be the last whole picture's.
+    /// Begins a picture with a header that came in this PH unit, or in none. Keeps what is in force for it, and whether its SPS
+    /// is known to be the last whole picture's.
     ///
     /// # Errors
     ///
-    /// Where memory runs out, and all is then as it was.
+    /// `AllocError` if memory runs out. Everything is then unchanged.
     pub(crate) fn start(
         &mut self,
         alloc: Global,

@@ -1,4 +1,4 @@
-//! The picture that was begun last, as far as its slices came.
+//! The picture that was begun last, with the slices taken so far.
 ghost use Rattle.std.specs.Prelude.{◌≡◌, OnOk, OnErr};
 ghost use Rattle.vx_pic.specs.Readings.{Current, is_open, is_within_picture};
 ghost use Rattle.vx_assemble.specs.inner.Changes as changes;
@@ -14,14 +14,14 @@ use vx_pic::{ApsList, Kind, Picture, PictureParts, SliceSlot, SliceSlots};
 use vx_sei::MessageList;
 
 impl CurrentPicture {
-    /// Whether all slices of a header's picture came.
+    /// Returns whether all slices of a header's picture were taken.
     pub(crate) fn came_all(&self, begun: &BegunPicture) -> bool
         ensures { result ≡ changes.came_all begun.now self.now }
     {
         self.slices.len() == begun.sets.value().slices
     }
 
-    /// Whether a picture is begun, and not all its slices came.
+    /// Returns whether a picture is begun, and not all its slices were taken.
     pub(crate) fn is_open(&self) -> bool
         requires { IsOrdered self.now }
         ensures { (c : Current) → Keeps self.now c → result ≡ is_open c }
@@ -33,7 +33,7 @@ impl CurrentPicture {
         }
     }
 
-    /// Whether some of its slices came, and not all.
+    /// Returns whether some of its slices were taken, and not all.
     pub(crate) fn is_within(&self) -> bool
         requires { IsOrdered self.now }
         ensures { (c : Current) → Keeps self.now c → result ≡ is_within_picture c }
@@ -44,7 +44,7 @@ impl CurrentPicture {
         }
     }
 
-    /// Begins it with a header that came in the PH unit of these bytes, or in none.
+    /// Begins it with a header that came in the PH unit with these bytes, or in none.
     pub(crate) fn start(&mut self, alloc: Global, begun: BegunPicture, bytes: Bytes)
         ensures { self.new ≡ changes.with_header begun bytes self.old }
     {
@@ -54,7 +54,7 @@ impl CurrentPicture {
         drop(replace(&mut self.slices, SliceSlots::new(alloc)));
     }
 
-    /// Sets what it is, where its header came, its adaptation parameter sets, and its messages, before its first slice.
+    /// Sets its kind, its adaptation parameter sets and its messages, after its header and before its first slice.
     pub(crate) fn open(&mut self, alloc: Global, kind: Kind, bodies: ApsList, messages: MessageList)
         ensures { self.new ≡ changes.with_kind kind bodies messages self.old }
     {
@@ -72,7 +72,7 @@ impl CurrentPicture {
     ///
     /// # Errors
     ///
-    /// Where memory runs out, and all is then as it was.
+    /// `AllocError` if memory runs out. Everything is then unchanged.
     pub(crate) fn append(&mut self, unit: &[u8]) -> Result<(), AllocError>
         ensures ok { OnOk result (self.new ≡ changes.with_bytes unit.now self.old) }
         ensures err { OnErr result (self.new ≡ self.old) }
@@ -80,11 +80,11 @@ impl CurrentPicture {
         self.bytes.extend_from_slice(unit)
     }
 
-    /// Appends a slice, whose bytes are there.
+    /// Appends a slice whose bytes are there.
     ///
     /// # Errors
     ///
-    /// Where memory runs out, and all is then as it was.
+    /// `AllocError` if memory runs out. Everything is then unchanged.
     pub(crate) fn push(&mut self, slot: SliceSlot) -> Result<(), AllocError>
         ensures ok { OnOk result (self.new ≡ changes.with_slot slot self.old) }
         ensures err { OnErr result (self.new ≡ self.old) }
@@ -92,7 +92,7 @@ impl CurrentPicture {
         self.slices.push(slot)
     }
 
-    /// The picture, all of whose slices came.
+    /// Returns the picture, all of whose slices were taken.
     pub(crate) fn lend(&self) -> Picture<'_>
         requires order { IsOrdered self.now }
         requires complete { IsComplete self.now }

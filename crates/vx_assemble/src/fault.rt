@@ -1,9 +1,9 @@
-//! Why units aren't taken.
+//! The faults for which units aren't taken.
 
 use thiserror::Error;
 use vx_bits::Refusal;
 
-/// What first kept a unit from being taken.
+/// The first fault: what kept a unit from being taken first.
 #[derive(Clone, Copy, Debug, PartialEq, Eq, Error)]
 pub enum First {
     /// Memory ran out.
@@ -17,7 +17,7 @@ pub enum First {
     Refused(Refusal),
 }
 
-/// Why a unit wasn't taken.
+/// The reason why a unit wasn't taken.
 #[derive(Clone, Copy, Debug, PartialEq, Eq, Error)]
 pub enum AssembleFault {
     /// Memory ran out.
@@ -26,7 +26,7 @@ pub enum AssembleFault {
     /// The stream is refused.
     #[error("refused")]
     Refused(Refusal),
-    /// A unit before wasn't taken.
+    /// An earlier unit wasn't taken, for this fault.
     #[error("stopped before")]
     Stopped(First),
 }

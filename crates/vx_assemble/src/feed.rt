@@ -27,7 +27,7 @@ use vx_pic::{Accepted, Lender, Picture};
 use vx_pps::Pps;
 use vx_sps::Sps;
 
-/// What a feed took.
+/// What a feed has taken: a unit, or the end of the source.
 #[derive(Clone, Copy, Debug, PartialEq, Eq)]
 pub enum Taken {
     /// A NAL unit.
@@ -36,7 +36,7 @@ pub enum Taken {
         header: NalHeader,
         /// The place of its first byte in the source.
         offset: u64,
-        /// Its length.
+        /// Its length in bytes.
         bytes: u64,
         /// What it was.
         what: Accepted,
@@ -45,7 +45,7 @@ pub enum Taken {
     End,
 }
 
-/// What a feed advanced to.
+/// The step to which a feed advanced: a picture, or the end.
 #[derive(Clone, Copy, Debug, PartialEq, Eq)]
 pub enum Step {
     /// A picture, with its last slice.
@@ -54,7 +54,7 @@ pub enum Step {
     End,
 }
 
-/// Why a feed takes no unit.
+/// The reason why a feed takes no unit.
 #[derive(Clone, Copy, Debug, PartialEq, Eq, Error)]
 pub enum FeedFault {
     /// Memory ran out.
@@ -66,21 +66,22 @@ pub enum FeedFault {
     /// The stream is refused.
     #[error("refused")]
     Refused(Refusal),
-    /// It stopped before.
+    /// It stopped before, for this fault.
     #[error("stopped before")]
     Stopped(First),
 }
 
-/// Takes the NAL units of a source in order, and hands on each picture with its last slice. The source is read only where
-/// no further unit is seen in what was read; each call that reads is given it. What it took of all of them, one after another, is
-/// the stream. It may also be fed the stream's bytes.
+/// A reader of a stream, unit by unit, which lends each picture once its last slice is complete.
 ///
-/// After a refusal, a failed read or want of memory it goes on no more.
+/// It doesn't own the source: calls that read take it as an argument. It reads only if the bytes read so far contain no further
+/// complete unit. Bytes can be handed in by `feed` instead. It holds at most 2^25 + 2^23 + 65,538 bytes of its source, in
+/// addition to stored sets and messages; a new feed holds none. After a refusal, a failed read or lack of memory every call
+/// returns `Stopped`.
 #[derive(Drop)]
 pub struct Feed {
     reader: UnitReader,
     assembler: Assembler,
-    // How many units were taken.
+    // The number of units taken.
     units: u64,
     first: Option<First>,
 }
@@ -135,7 +136,7 @@ impl From<ReadFault> for FeedFault {
     }
 }
 
-/// What first kept a feed from going on, by its answer.
+/// Returns the first fault of a feed, from its error.
 fn first_of(fault: FeedFault) -> First
     ensures { result ≡ first_of fault }
 {
@@ -166,7 +167,7 @@ fn accept(assembler: &mut Assembler, unit: &[u8], offset: u64) -> Result<Taken, 
     })
 }
 
-/// Takes the next unit that is seen in what was read, which a view looks at before, or finds the end.
+/// Takes the next unit that is seen in what was read, after `view` has looked at it, or finds the end.
 fn take_seen<V: UnitView>(
     reader: &mut UnitReader,
     assembler: &mut Assembler,
@@ -215,7 +216,7 @@ fn take_seen<V: UnitView>(
     Ok(Some(Taken::End))
 }
 
-/// Where a feed comes to that took this; None where it is a unit that completes no picture.
+/// Returns the step of a feed that took this, or `None` for a unit that completes no picture.
 fn step_of(taken: Taken) -> Option<Step>
     ensures { result ≡ step_by taken }
 {
@@ -246,7 +247,11 @@ impl Feed {
     ghost use Rattle.vx_assemble.specs.declared.fault.First.{First as FirstFault};
     ghost use Rattle.vx_assemble.specs.declared.feed.FeedFault.TheVariants.{Stopped};
 
-    /// A feed that has read nothing.
+    /// Returns a feed that has read nothing.
+    ///
+    /// # Errors
+    ///
+    /// `AllocError` if memory runs out.
     pub fn new(alloc: Global) -> Result<Feed, AllocError>
         ensures fed { IfOk result (λ f. (R : Readers) → HasFed R f [] [] []) }
         ensures needed { OnOk result (reading.LastWasNeeded [] []) }
@@ -263,12 +268,16 @@ impl Feed {
         })
     }
 
-    /// Takes the next unit, in order, whose end is seen in what was read; at the end of the source it answers that. None
-    /// where neither a further unit's end nor a byte that is no start code was read. It reads nothing.
+    /// Returns the next complete unit among the bytes read so far, or `Taken::End` at the end of the stream. Never reads.
+    ///
+    /// Returns `None` if more bytes are needed: they contain neither the end of a further unit nor a stray byte. The pictures
+    /// taken are then exactly those that are complete in the bytes read. Call `read` or `feed` only after `None`.
     ///
     /// # Errors
     ///
-    /// `Refused` with the first rule that is broken; want of memory; `Stopped` with the first fault from then on.
+    /// - `Refused` with the first rule that is broken.
+    /// - `Memory` if memory runs out.
+    /// - `Stopped` with the first fault in every later call.
     pub fn next(&mut self) -> Result<Option<Taken>, FeedFault>
         ensures answer { (R : Readers) → AreOfH266 R → (g : List ℕ) (places : List UnitPlace) (before : List Reading)
             → HasFed R self.old g places before → Gives R g places before self.new result }
@@ -296,8 +305,8 @@ impl Feed {
         self.next_with(&mut ())
     }
 
-    /// As [`Feed::next`], and a view looks at the unit before it is taken, also where that is refused; where there is no unit, it sees
-    /// nothing.
+    /// Takes the next unit as [`Feed::next`] does, after `view` has looked at it. The view also sees a unit that is refused, and
+    /// sees nothing if there is no unit.
     ///
     /// # Errors
     ///
@@ -340,8 +349,7 @@ impl Feed {
         }
     }
 
-    /// Whether the source may be read on: it has not ended, has given no more bytes than the limit, and nothing has kept the
-    /// feed from going on.
+    /// Returns whether the source may be read on: it has not ended, has not exceeded the limit, and the feed has not stopped.
     pub fn is_open(&self) -> bool
         ensures open { IsTrue result → IsOpen self.now }
         ensures closed { ¬ IsTrue result → ¬ IsOpen self.now }
@@ -353,11 +361,14 @@ impl Feed {
         self.reader.is_open()
     }
 
-    /// Reads once, where `next` answered none last.
+    /// Reads the source once. Call it only after `next` has returned `None`.
     ///
     /// # Errors
     ///
-    /// A failed read, or want of memory, for which nothing is read.
+    /// - `Memory` if memory runs out; nothing is read.
+    /// - `SourceFailed` if the read failed.
+    ///
+    /// After either, every call returns `Stopped`.
     pub fn read(&mut self, source: &mut dyn Source) -> Result<(), ReadFault>
         requires open { IsOpen self.old }
         requires sought { IsSought self.old.reader.splitter }
@@ -384,14 +395,15 @@ impl Feed {
         }
     }
 
-    /// How many units were taken.
+    /// Returns the number of units taken.
     pub fn unit(&self) -> u64
         ensures { result ≡ self.now.units }
     {
         self.units
     }
 
-    /// The items of the set that was taken last, where that was told as `what`; None where it wasn't, or no set was taken last.
+    /// Returns the items of the set that was taken last, if `what` is its result; otherwise, or after another unit, `None`.
+    ///
     /// Those of an APS are its type and its id.
     pub fn fields(&self, what: Accepted) -> Option<&Fields>
         ensures taken { (r : Reading) (before : List Reading) → Stands self.now.assembler (r ∷ before) → what ≡ told_of r before
@@ -401,7 +413,7 @@ impl Feed {
         self.assembler.fields(what)
     }
 
-    /// The picture whose last slice was the last unit taken. It takes no memory.
+    /// Returns the picture whose last slice was the last unit taken. Takes no memory.
     pub fn picture(&self) -> Picture<'_>
         requires { HasPicture self.now.assembler }
         ensures lent { result ≡ lent_by self.now.assembler }
@@ -411,27 +423,32 @@ impl Feed {
         self.assembler.picture()
     }
 
-    /// The SPS of an id, where one is stored.
+    /// Returns the stored SPS with an id, or `None`.
     pub fn sps(&self, id: u8) -> Option<&Sps>
         ensures { (before : List Reading) → Stands self.now.assembler before → option_copied result ≡ stored_sps id before }
     {
         self.assembler.sps(id)
     }
 
-    /// The PPS of an id, where one is stored.
+    /// Returns the stored PPS with an id, or `None`.
     pub fn pps(&self, id: u8) -> Option<&Pps>
         ensures { (before : List Reading) → Stands self.now.assembler before → option_copied result ≡ stored_pps id before }
     {
         self.assembler.pps(id)
     }
 
-    /// Takes the next unit of the source: it is read for as long as no further unit's end is seen. At its end, and from then
-    /// on, that is the answer.
+    /// Takes the next unit of the source, or returns `Taken::End` at its end, and from then on.
+    ///
+    /// Reads only until a further unit's end is seen. When it returns a unit, the source has given fewer than 65,536 bytes after
+    /// the three that show the unit's end; at the end it has no bytes left. After a failed read, the units taken are exactly
+    /// those that are complete in the bytes read.
     ///
     /// # Errors
     ///
-    /// `Refused` with the first rule that is broken; a failed read; want of memory; `Stopped` with the first of these from then
-    /// on. Then nothing is read.
+    /// - `Refused` with the first rule that is broken.
+    /// - `SourceFailed` if a read failed.
+    /// - `Memory` if memory runs out.
+    /// - `Stopped` with the first of these in every later call, which reads nothing.
     pub fn take(&mut self, source: &mut dyn Source) -> Result<Taken, FeedFault>
         ensures answer { (R : Readers) → AreOfH266 R → (g : List ℕ) (places : List UnitPlace) (before : List Reading)
             → HasFed R self.old g places before → reading.LastWasNeeded g places
@@ -460,9 +477,12 @@ impl Feed {
 
     /// Takes units of the source until one completes a picture, or to the end.
     ///
+    /// It reads as [`Feed::take`] does. After a failed read, the pictures taken are exactly those that are complete in the bytes
+    /// read.
+    ///
     /// # Errors
     ///
-    /// Those of `take`.
+    /// As [`Feed::take`].
     pub fn advance(&mut self, source: &mut dyn Source) -> Result<Step, FeedFault>
         ensures answer { (R : Readers) → AreOfH266 R → (g : List ℕ) (places : List UnitPlace) (before : List Reading)
             → HasFed R self.old g places before → reading.LastWasNeeded g places
@@ -503,12 +523,12 @@ impl Feed {
     ghost use Rattle.vx_assemble.specs.Feed.{HasFed, IsOpen, bytes_held, most_held};
     ghost use Rattle.vx_assemble.specs.declared.fault.First.TheVariants as firsts;
 
-    /// Takes bytes of the source in place of a read, where `next` answered none last: the first of a piece, at most as many as
-    /// a read asks for, and of all one more than a source may have. Answers how many.
+    /// Appends a prefix of `piece` as if it had been read, and returns its length: at most 65,536 bytes, and at most 2^40 + 1 in
+    /// all. Call it only after `next` has returned `None`.
     ///
     /// # Errors
     ///
-    /// Want of memory, for which nothing is taken.
+    /// `AllocError` if memory runs out; nothing is taken, and every later call returns `Stopped`.
     pub fn feed(&mut self, piece: &[u8]) -> Result<usize, AllocError>
         requires open { IsOpen self.old }
         requires sought { IsSought self.old.reader.splitter }
@@ -536,7 +556,7 @@ impl Feed {
         }
     }
 
-    /// Says that the bytes that were taken are all there are, where `next` answered none last.
+    /// Ends the stream: the bytes taken so far are all there are. Call it only after `next` has returned `None`.
     pub fn finish(&mut self)
         requires open { IsOpen self.old }
         ensures fed { (R : Readers) (g : List ℕ) (places : List UnitPlace) (before : List Reading)

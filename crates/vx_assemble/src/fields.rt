@@ -1,4 +1,4 @@
-//! The fields that a unit spells, up to the first that is refused.
+//! The fields of a unit, up to the first that is refused.
 ghost use Rattle.std.specs.Prelude.{◌≡◌, ◌++◌, ◌≤◌, length, true, List, Option, None, ℕ, IfOk, OnOk};
 ghost use Rattle.vx_bits.specs.Place.{Place};
 ghost use Rattle.vx_bits.specs.Limits.{unit_limit};
@@ -34,7 +34,7 @@ use vx_ptl::read_vps_fields;
 use vx_sh::read_sh_fields;
 use vx_sps::{Sps, read_sps_fields};
 
-/// Passes over a refusal: the fields end there.
+/// Drops a refusal: the fields end there.
 fn unless_memory(read: Result<(), ReadError>) -> Result<(), AllocError>
     ensures { OnOk result (HasAnswered read) }
 {
@@ -45,7 +45,7 @@ fn unless_memory(read: Result<(), ReadError>) -> Result<(), AllocError>
     }
 }
 
-/// The fields of a structure without a body.
+/// Returns the fields of a structure without a body.
 fn fields_of(structure: Structure, items: Fields) -> StructureFields
     ensures { result ≡ shown.fields_of structure items }
 {
@@ -58,7 +58,7 @@ fn fields_of(structure: Structure, items: Fields) -> StructureFields
 
 // ---- sets
 
-/// The items of a VPS.
+/// Returns the items of a VPS.
 fn vps_items(alloc: Global, rbsp: &[u8]) -> Result<Fields, AllocError>
     requires { length rbsp.now ≤ unit_limit }
     ensures { IfOk result (λ items. (R : Readers) (h : AreOfH266 R) → items ≡ fields.vps_items R h rbsp.now) }
@@ -68,7 +68,7 @@ fn vps_items(alloc: Global, rbsp: &[u8]) -> Result<Fields, AllocError>
     Ok(items)
 }
 
-/// The items of an SPS.
+/// Returns the items of an SPS.
 fn sps_items(alloc: Global, rbsp: &[u8]) -> Result<Fields, AllocError>
     requires { length rbsp.now ≤ unit_limit }
     ensures { IfOk result (λ items. (R : Readers) (h : AreOfH266 R) → items ≡ fields.sps_items R h rbsp.now) }
@@ -78,7 +78,7 @@ fn sps_items(alloc: Global, rbsp: &[u8]) -> Result<Fields, AllocError>
     Ok(items)
 }
 
-/// The items of a PPS.
+/// Returns the items of a PPS.
 fn pps_items(alloc: Global, rbsp: &[u8]) -> Result<Fields, AllocError>
     requires { length rbsp.now ≤ unit_limit }
     ensures { IfOk result (λ items. (R : Readers) (h : AreOfH266 R) → items ≡ fields.pps_items R h rbsp.now) }
@@ -88,7 +88,7 @@ fn pps_items(alloc: Global, rbsp: &[u8]) -> Result<Fields, AllocError>
     Ok(items)
 }
 
-/// The fields of an APS.
+/// Returns the fields of an APS.
 fn aps_fields(alloc: Global, rbsp: &[u8]) -> Result<StructureFields, AllocError>
     ensures { IfOk result (λ f. (R : Readers) (h : AreOfH266 R) → f ≡ fields.aps_fields R h rbsp.now) }
 {
@@ -102,7 +102,7 @@ fn aps_fields(alloc: Global, rbsp: &[u8]) -> Result<StructureFields, AllocError>
 
 // ---- picture headers
 
-/// The items before a picture header that may stand inside a slice.
+/// Returns the items before a picture header, which may be inside a slice.
 fn items_before(alloc: Global, inside: bool) -> Result<Fields, AllocError>
     ensures { IfOk result (λ items. items ≡ head_items inside) }
 {
@@ -116,7 +116,7 @@ fn items_before(alloc: Global, inside: bool) -> Result<Fields, AllocError>
     Ok(items)
 }
 
-/// The items of a picture header up to the id of the PPS.
+/// Returns the items of a picture header up to the id of the PPS.
 fn items_to_id(alloc: Global, inside: bool, rbsp: &[u8]) -> Result<Fields, AllocError>
     requires { length rbsp.now ≤ unit_limit }
     ensures { IfOk result (λ items. (R : Readers) (h : AreOfH266 R) → items ≡ head_items inside ++ fields.id_items R h inside rbsp.now) }
@@ -127,7 +127,7 @@ fn items_to_id(alloc: Global, inside: bool, rbsp: &[u8]) -> Result<Fields, Alloc
     Ok(items)
 }
 
-/// The items of a picture header inside a slice, under its sets.
+/// Returns the items of a picture header inside a slice, under its sets.
 fn items_inside(alloc: Global, sps: &Sps, pps: &Pps, rbsp: &[u8]) -> Result<Fields, AllocError>
     requires { length rbsp.now ≤ unit_limit }
     ensures { IfOk result (λ items. (R : Readers) (h : AreOfH266 R)
@@ -139,7 +139,7 @@ fn items_inside(alloc: Global, sps: &Sps, pps: &Pps, rbsp: &[u8]) -> Result<Fiel
     Ok(items)
 }
 
-/// The items of a picture header, which may stand inside a slice, under its sets.
+/// Returns the items of a picture header, which may be inside a slice, under its sets.
 fn header_items(
     alloc: Global,
     inside: bool,
@@ -162,7 +162,7 @@ fn header_items(
 
 // ---- slices
 
-/// Reads the fields of a slice of a picture, whose first slice is of this type, from the RBSP of its unit.
+/// Reads the fields of a slice of a picture, whose first slice has this type, from the RBSP of its unit.
 fn read_slice_fields(
     nal_type: u8,
     begun: &BegunPicture,
@@ -178,7 +178,7 @@ fn read_slice_fields(
     Ok(())
 }
 
-/// The items of a slice of a picture, whose first slice is of this type.
+/// Returns the items of a slice of a picture, whose first slice has this type.
 fn slice_items(
     alloc: Global,
     nal_type: u8,
@@ -201,7 +201,8 @@ fn slice_items(
 }
 
 impl State {
-    /// The items of a picture header, which may stand inside a slice: up to the id of the PPS where one of its sets isn't stored.
+    /// Returns the items of a picture header, which may be inside a slice: up to the id of the PPS if one of its sets isn't
+    /// stored.
     fn picture_header_items(
         &self,
         alloc: Global,
@@ -232,7 +233,7 @@ impl State {
         Ok(items)
     }
 
-    /// The items of a picture header inside a slice, of which all bytes are passed.
+    /// Returns the items of a picture header inside a slice, of which all bytes are unescaped.
     fn whole_header_items(&self, alloc: Global, unit: SliceUnit<'_>) -> Result<Fields, AllocError>
         ensures { IfOk result (λ items. (R : Readers) (h : AreOfH266 R) (before : List Reading) → IsApart self.now before
             → items ≡ head_items true ++ fields.picture_header_items R h true (rbsp_of unit.entry.bytes.now) before) }
@@ -243,7 +244,7 @@ impl State {
         Ok(items)
     }
 
-    /// The items of a slice with the picture header inside.
+    /// Returns the items of a slice with the picture header inside.
     fn alone_items(&self, alloc: Global, unit: SliceUnit<'_>) -> Result<Fields, AllocError>
         requires { IsInOrder self.now }
         ensures { IfOk result (λ items. (R : Readers) (h : AreOfH266 R) (before : List Reading) → IsApart self.now before
@@ -256,7 +257,7 @@ impl State {
         }
     }
 
-    /// The fields of a slice whose picture header came before it; none where there is no such picture.
+    /// Returns the fields of a slice whose picture header came before it; none if there is no such picture.
     fn following_fields(
         &self,
         alloc: Global,
@@ -282,7 +283,7 @@ impl State {
         }
     }
 
-    /// The fields of a slice.
+    /// Returns the fields of a slice.
     fn slice_fields(
         &self,
         alloc: Global,
@@ -300,7 +301,7 @@ impl State {
         Ok(read)
     }
 
-    /// The fields of a slice's unit, of which no bytes are passed behind its header.
+    /// Returns the fields of a slice's unit, of which only the start is unescaped if the header ends there.
     fn slice_unit_fields(
         &self,
         alloc: Global,
@@ -320,7 +321,7 @@ impl State {
         Ok(read)
     }
 
-    /// The fields of a unit of a class, of which all bytes are passed.
+    /// Returns the fields of a unit of a class, of which all bytes are unescaped.
     fn class_fields(
         &self,
         alloc: Global,
@@ -348,7 +349,7 @@ impl State {
         }
     }
 
-    /// The fields of a unit of a class.
+    /// Returns the fields of a unit of a class.
     fn whole_unit_fields(
         &self,
         alloc: Global,
@@ -368,7 +369,7 @@ impl State {
         Ok(given)
     }
 
-    /// The fields that a unit spells behind those that were taken, up to the first that is refused.
+    /// Returns the fields of a unit after those that were taken, up to the first that is refused.
     #[tactic(auto, unfolding(vx_pic::specs::Units::is_reserved))]
     pub(crate) fn unit_fields(
         &self,

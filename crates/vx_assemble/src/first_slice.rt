@@ -21,7 +21,7 @@ use vx_pic::{
 };
 use vx_sps::Sps;
 
-/// ph_poc_msb_cycle_val, where it is present.
+/// Returns ph_poc_msb_cycle_val, if it is present.
 #[tactic(auto, unfolding(vx_pic::specs::Sets::msb_cycle))]
 fn msb_cycle(header: &Fields) -> Option<u32>
     ensures { result ≡ sets.msb_cycle header.now }
@@ -32,7 +32,7 @@ fn msb_cycle(header: &Fields) -> Option<u32>
     None
 }
 
-/// The bits of ph_pic_order_cnt_lsb.
+/// Returns the number of bits of ph_pic_order_cnt_lsb.
 #[tactic(auto, using(crate::proofs::Ids::lsb_below), unfolding(vx_pic::specs::Sets::max_lsb))]
 fn lsb_bits(sps: &Sps) -> u32
     ensures max { 2 ^ result ≡ sets.max_lsb sps.now }
@@ -42,7 +42,7 @@ fn lsb_bits(sps: &Sps) -> u32
     sps.number(sps_log2_max_pic_order_cnt_lsb_minus4) + 4
 }
 
-/// What a header tells of counts, and an SPS.
+/// Returns the fields of a header and an SPS from which counts are computed.
 #[tactic(auto, unfolding(vx_pic::specs::Sets::lsb_of))]
 fn count_fields(sps: &Sps, header: &Fields) -> CountFields
     ensures told { IsCountedBy result sps.now header.now }
@@ -55,7 +55,7 @@ fn count_fields(sps: &Sps, header: &Fields) -> CountFields
     }
 }
 
-/// Whether later counts come from a picture.
+/// Returns whether later counts are computed from a picture.
 #[tactic(auto, unfolding(vx_pic::specs::Sets::is_non_ref))]
 fn is_tid0(header: &Fields, kind: Kind) -> bool
     ensures { result ≡ tid0_by header.now kind }
@@ -66,7 +66,7 @@ fn is_tid0(header: &Fields, kind: Kind) -> bool
     kind.nal_type != RADL_NUT && kind.nal_type != RASL_NUT
 }
 
-/// What later counts come from, behind a whole picture; before it that was `old`.
+/// Returns what later counts are computed from, after a whole picture; before it that was `old`.
 #[tactic(auto, unfolding(vx_pic::specs::Sets::lsb_of))]
 pub(crate) fn counts_behind(begun: &BegunPicture, kind: Kind, old: PrevTid0) -> PrevTid0
     ensures { result ≡ changes.counts_behind begun.now kind old }
@@ -82,14 +82,14 @@ pub(crate) fn counts_behind(begun: &BegunPicture, kind: Kind, old: PrevTid0) -> 
 }
 
 impl State {
-    /// Whether the next picture is the first, or the first behind an end of sequence.
+    /// Returns whether the next picture is the first, or the first after an end of sequence.
     fn begins_anew(&self) -> bool
         ensures { result ≡ held_anew self.now }
     {
         self.ended || self.last.is_none()
     }
 
-    /// Whether the SPS of the picture that was begun last is another one than that of the picture before.
+    /// Returns whether the SPS of the picture that was begun last differs from that of the picture before.
     #[tactic(auto, using(crate::proofs::Openings::held_same))]
     fn changes(&self, sps: &Sps) -> bool
         requires { KnowsSps self.now (Some sps.now) }
@@ -107,11 +107,11 @@ impl State {
         }
     }
 
-    /// What the picture that was begun last is, whose first slice is of a unit with this header.
+    /// Returns the kind of the picture that was begun last, whose first slice is in a unit with this header.
     ///
     /// # Errors
     ///
-    /// It starts elsewhere than at an IRAP or GDR picture, its SPS has changed, or its count is out of range.
+    /// The refusal if it starts other than at an IRAP or GDR picture, if its SPS has changed, or if its count is out of range.
     pub(crate) fn open(&self, begun: &BegunPicture, header: NalHeader) -> Result<Kind, Refusal>
         requires { KnowsSps self.now (Some begun.now.sets.sps) }
         ensures value { result ≡ opened_in self.now (begun_of begun.now None) header.nal_type header.temporal_id }

@@ -11,10 +11,10 @@ use std::mem::replace;
 use vx_bits::Bytes;
 use vx_sei::{Message, MessageList};
 
-/// The most bytes of the messages gathered for a picture.
+/// The greatest number of bytes of the messages gathered for a picture.
 const MESSAGE_LIMIT: usize = 65_536;
 
-/// The bytes of messages, as they are spelled, and of `before` others; none where these pass the limit.
+/// Returns the number of bytes of coded messages, and of `before` others; `None` if they exceed the limit.
 #[tactic(auto, using(crate::proofs::Gathered::spelled_none, crate::proofs::Gathered::spelled_more, crate::proofs::Gathered::spelled_past, crate::proofs::Gathered::spelled_all), unfolding(vx_pic::specs::Rules::message_limit))]
 fn spelled_behind(before: usize, messages: &MessageList) -> Option<usize>
     requires { before ≤ message_limit }
@@ -33,7 +33,7 @@ fn spelled_behind(before: usize, messages: &MessageList) -> Option<usize>
     Some(total)
 }
 
-/// A message once more.
+/// Returns a copy of a message.
 fn copied(alloc: Global, message: &Message) -> Result<Message, AllocError>
     ensures { IfOk result (λ copy. copy ≡ message.now) }
 {
@@ -63,11 +63,11 @@ fn append_all(
 }
 
 impl State {
-    /// Gathers messages for the next picture, unless they pass the limit: whether they don't.
+    /// Gathers messages for the next picture unless they exceed the limit, and returns whether they don't.
     ///
     /// # Errors
     ///
-    /// Where memory runs out.
+    /// `AllocError` if memory runs out.
     pub(crate) fn gather(
         &mut self,
         alloc: Global,

@@ -34,11 +34,11 @@ pub(crate) struct InForce {
     pub ids: IdList,
     /// The number of slices.
     pub slices: usize,
-    /// The numbers of both sets, at which headers are read.
+    /// The numbers of both sets, under which headers are read.
     pub scope: Shared<Scope>,
 }
 
-/// Whether the pictures of both sets have one size.
+/// Returns whether the pictures of both sets have the same size.
 #[tactic(auto, unfolding(vx_pic::specs::Sets::same_size))]
 fn have_same_size(sps: &Sps, pps: &Pps) -> bool
     ensures { result ≡ same_size sps.now pps.now }
@@ -46,7 +46,7 @@ fn have_same_size(sps: &Sps, pps: &Pps) -> bool
     pps.width() == sps.width() && pps.height() == sps.height()
 }
 
-/// The number of slices of two sets.
+/// Returns the number of slices of two sets.
 fn slice_count(sps: &Sps, pps: &Pps) -> usize
     ensures { result ≡ length (numbers_in sps.now pps.now).slices }
 {
@@ -68,18 +68,19 @@ struct MadeUp {
     scope: Shared<Scope>,
 }
 
-/// The numbers of two sets, at which headers are read.
+/// Returns the numbers of two sets, under which headers are read.
 fn scope_of(alloc: Global, sps: &Sps, pps: &Pps) -> Result<Shared<Scope>, AllocError>
     ensures { IfOk result (λ scope. scope ≡ header_scope sps.now pps.now) }
 {
     Shared::new(alloc, in_force(sps, pps))
 }
 
-/// What two sets make up.
+/// Returns what two sets make up.
 ///
 /// # Errors
 ///
-/// SIZE_DIFFERS, or the lowest fault of the layout; want of memory.
+/// - `Refused` with SIZE_DIFFERS, or with the lowest fault of the layout.
+/// - `Memory` if memory runs out.
 fn make_up(alloc: Global, sps: &Sps, pps: &Pps) -> Result<MadeUp, ReadError>
     ensures answer { (R : Readers) → AreOfH266 R → Gives (layout_under R sps.now pps.now) (answer_by (λ made. made.layout) result) }
     ensures made { IfOk result (λ made. AreMade (with_sets sps.now pps.now made)) }
@@ -99,11 +100,12 @@ fn make_up(alloc: Global, sps: &Sps, pps: &Pps) -> Result<MadeUp, ReadError>
 }
 
 impl InForce {
-    /// What two sets make up.
+    /// Returns two sets and what they make up.
     ///
     /// # Errors
     ///
-    /// SIZE_DIFFERS, or the lowest fault of the layout; want of memory.
+    /// - `Refused` with SIZE_DIFFERS, or with the lowest fault of the layout.
+    /// - `Memory` if memory runs out.
     pub(crate) fn new(
         alloc: Global,
         sps: Shared<Sps>,

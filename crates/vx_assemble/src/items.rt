@@ -4,7 +4,7 @@ ghost use Rattle.vx_pic.specs.Sets as sets;
 
 use vx_bits::Fields;
 
-/// A field's value: its first item's, and 0 where it has none.
+/// Returns the value of a field's first item, or 0 if it has none.
 pub(crate) fn signed(fields: &Fields, field: u16) -> i64
     ensures { result ≡ sets.signed fields.now field }
 {

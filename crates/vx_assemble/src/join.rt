@@ -37,22 +37,22 @@ use vx_pps::Pps;
 use vx_sps::Sps;
 use vx_table::natural;
 
-/// Where a slice joins a picture.
+/// The picture that a slice joins, as far as the rules need it.
 #[derive(Clone, Copy)]
 pub(crate) struct Place<'a> {
-    /// What the picture is.
+    /// The picture's kind.
     pub kind: Kind,
     /// Its header, with what is in force for it.
     pub begun: &'a BegunPicture,
     /// Its adaptation parameter sets.
     pub bodies: &'a ApsList,
-    /// How many slices came before.
+    /// The number of slices before.
     pub count: usize,
-    /// How many bytes came before.
+    /// The number of bytes before.
     pub size: usize,
 }
 
-/// Whether a unit has the picture's TemporalId and type.
+/// Checks that a unit has the picture's TemporalId and type.
 fn check_kind(place: Place<'_>, header: NalHeader) -> Result<(), Refusal>
     ensures { result ≡ same_picture place.entry.begun.now.temporal_id place.entry.kind.nal_type header.nal_type header.temporal_id }
 {
@@ -65,7 +65,7 @@ fn check_kind(place: Place<'_>, header: NalHeader) -> Result<(), Refusal>
     Ok(())
 }
 
-/// How many slices lie in the subpictures before one.
+/// Returns the number of slices in the subpictures before one.
 #[tactic(auto, using(crate::proofs::Counted::count_more))]
 fn slices_before(layout: &Layout, subpic: u32) -> usize
     requires { subpic ≤ length layout.now.subpics }
@@ -79,7 +79,7 @@ fn slices_before(layout: &Layout, subpic: u32) -> usize
     count
 }
 
-/// Whether the set is there that an item names, where it is of this field.
+/// Checks that the set is there that an item names, if the item is of this field.
 fn check_item(bodies: &ApsList, kind: u8, field: u16, item: Item) -> Result<(), Refusal>
     requires kind { kind ≤ SCALING }
     requires small { AreSmall (sets.named kind field (item ∷ [])) }
@@ -95,7 +95,7 @@ fn check_item(bodies: &ApsList, kind: u8, field: u16, item: Item) -> Result<(), 
     Ok(())
 }
 
-/// Whether the sets that a field names are there.
+/// Checks that the sets that a field names are there.
 #[tactic(auto, using(crate::proofs::Named::there_first, crate::proofs::Named::item_small, crate::proofs::Named::there_on, crate::proofs::Named::there_not, crate::proofs::Named::there_all))]
 fn check_named(bodies: &ApsList, kind: u8, field: u16, fields: &Fields) -> Result<(), Refusal>
     requires kind { kind ≤ SCALING }
@@ -109,7 +109,7 @@ fn check_named(bodies: &ApsList, kind: u8, field: u16, fields: &Fields) -> Resul
     Ok(())
 }
 
-/// Whether the filters that items name are there.
+/// Checks that the filters that items name are there.
 fn check_filters(bodies: &ApsList, items: &Fields) -> Result<(), Refusal>
     requires { AreSmall (sets.named_filters items.now) }
     ensures { result ≡ all_there bodies.now (sets.named_filters items.now) }
@@ -120,7 +120,7 @@ fn check_filters(bodies: &ApsList, items: &Fields) -> Result<(), Refusal>
     check_named(bodies, ALF, alf_cc_cr_aps_id, items)
 }
 
-/// The items that name filters: those of the picture header, or of the slice header.
+/// Returns the items that name filters: those of the picture header, or of the slice header.
 fn filter_items<'a>(pps: &Pps, header: &'a Fields, slice: &'a Fields) -> &'a Fields
     ensures { result.now ≡ sets.filter_items pps.now header.now (items_only slice.now) }
 {
@@ -131,7 +131,7 @@ fn filter_items<'a>(pps: &Pps, header: &'a Fields, slice: &'a Fields) -> &'a Fie
     }
 }
 
-/// Whether the adaptation parameter sets that a slice names are there: LMCS and scaling lists whether it uses them or not.
+/// Checks that the adaptation parameter sets that a slice names are there: LMCS and scaling lists whether it uses them or not.
 fn check_bodies(bodies: &ApsList, pps: &Pps, header: &Fields, slice: &Fields) -> Result<(), Refusal>
     requires { AreSmall (names_in pps.now header.now slice.now) }
     ensures { result ≡ all_there bodies.now (names_in pps.now header.now slice.now) }
@@ -141,7 +141,7 @@ fn check_bodies(bodies: &ApsList, pps: &Pps, header: &Fields, slice: &Fields) ->
     check_named(bodies, SCALING, ph_scaling_list_aps_id, header)
 }
 
-/// What a picture header or a slice header adds to the quantization parameter.
+/// Returns what a picture header or a slice header adds to the quantization parameter.
 fn qp_delta(pps: &Pps, header: &Fields, slice: &Fields) -> i64
     ensures { result ≡ sets.qp_delta pps.now header.now (items_only slice.now) }
 {
@@ -152,7 +152,7 @@ fn qp_delta(pps: &Pps, header: &Fields, slice: &Fields) -> i64
     }
 }
 
-/// SliceQpY.
+/// Returns SliceQpY.
 #[tactic(auto, unfolding(vx_pic::specs::Sets::slice_qp))]
 fn slice_qp(pps: &Pps, header: &Fields, slice: &Fields) -> i128
     ensures { result ≡ qp_in pps.now header.now slice.now }
@@ -162,7 +162,7 @@ fn slice_qp(pps: &Pps, header: &Fields, slice: &Fields) -> i128
     26 + i128::from(init) + i128::from(delta)
 }
 
-/// Whether a slice's quantization parameter is in its range.
+/// Checks that a slice's quantization parameter is in its range.
 #[tactic(auto, unfolding(vx_pic::specs::Sets::is_qp))]
 fn check_qp(sps: &Sps, qp: i128) -> Result<(), Refusal>
     ensures { result ≡ qp_checked sps.now qp }
@@ -177,14 +177,14 @@ fn check_qp(sps: &Sps, qp: i128) -> Result<(), Refusal>
     Ok(())
 }
 
-/// Whether the quantization parameter of a slice with this header is in its range.
+/// Checks that the quantization parameter of a slice with this header is in its range.
 fn check_slice_qp(sps: &Sps, pps: &Pps, header: &Fields, slice: &Fields) -> Result<(), Refusal>
     ensures { result ≡ qp_checked sps.now (qp_in pps.now header.now slice.now) }
 {
     check_qp(sps, slice_qp(pps, header, slice))
 }
 
-/// Whether there is a payload, and the picture isn't too long.
+/// Checks that there is a payload, and that the picture isn't too long.
 #[tactic(auto, unfolding(vx_pic::specs::Rules::picture_limit))]
 fn check_limits(size: usize, more: usize, payload: usize) -> Result<(), Refusal>
     requires old { size ≤ picture_limit }
@@ -202,7 +202,7 @@ fn check_limits(size: usize, more: usize, payload: usize) -> Result<(), Refusal>
     Ok(())
 }
 
-/// Whether a slice that was read is the next one of a picture.
+/// Checks that a slice that was read is the next one of a picture.
 #[tactic(auto, unfolding(vx_pic::specs::Sets::slices_before, vx_pic::specs::Sets::address_of))]
 fn check_place(place: Place<'_>, read: &ReadSlice) -> Result<(), Refusal>
     requires { read.now.header.subpic < length place.begun.now.sets.layout.subpics }
@@ -216,7 +216,7 @@ fn check_place(place: Place<'_>, read: &ReadSlice) -> Result<(), Refusal>
     Ok(())
 }
 
-/// Whether a slice that was read, of a unit of `more` bytes, joins a picture.
+/// Checks that a slice that was read, in a unit of `more` bytes, joins a picture.
 fn check_slice(place: Place<'_>, read: &ReadSlice, more: usize) -> Result<(), Refusal>
     requires old { place.size ≤ picture_limit }
     requires more { more ≤ unit_limit }
@@ -234,11 +234,12 @@ fn check_slice(place: Place<'_>, read: &ReadSlice, more: usize) -> Result<(), Re
     check_limits(place.size, more, read.payload)
 }
 
-/// A slice that joins a picture.
+/// Reads a slice that joins a picture.
 ///
 /// # Errors
 ///
-/// The first rule that it breaks; want of memory.
+/// - `Refused` with the first rule that it breaks.
+/// - `Memory` if memory runs out.
 pub(crate) fn join(
     alloc: Global,
     unit: SliceUnit<'_>,

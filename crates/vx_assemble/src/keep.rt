@@ -1,4 +1,4 @@
-//! What is kept, changed.
+//! Changes of what is kept.
 ghost use Rattle.std.specs.Prelude.{◌≡◌, None, option_copied};
 ghost use Rattle.std.specs.List.{slice_index_or};
 ghost use Rattle.vx_aps.specs.Aps.{IsValid};
@@ -22,7 +22,7 @@ impl State {
         self.fields = items;
     }
 
-    /// Keeps an APS of these items, in the place of the one of its type and id.
+    /// Keeps an APS with these items, in place of the one with its type and id.
     pub(crate) fn keep_aps(&mut self, aps: Arc<Aps>, items: Fields)
         requires valid { IsValid aps.value }
         requires items { items ≡ aps_items aps.value }
@@ -39,14 +39,14 @@ impl State {
         self.ended = true;
     }
 
-    /// The SPS of an id.
+    /// Returns the SPS with an id.
     pub(crate) fn sps_of(&self, id: u8) -> Option<&Shared<Sps>>
         ensures { option_copied result ≡ slice_index_or self.now.sps id None }
     {
         set_of(&self.sps, id)
     }
 
-    /// The PPS of an id.
+    /// Returns the PPS with an id.
     pub(crate) fn pps_of(&self, id: u8) -> Option<&Shared<Pps>>
         ensures { option_copied result ≡ slice_index_or self.now.pps id None }
     {

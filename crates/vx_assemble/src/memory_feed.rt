@@ -23,20 +23,19 @@ use vx_bits::limits::SOURCE_LIMIT;
 use vx_bits::rules::LONG_SOURCE;
 use vx_pic::{Accepted, Lender, Picture};
 
-/// The refusal of a source that has more.
+/// The refusal of a source that is longer than the limit.
 const SOURCE_TOO_LONG: Refusal = Refusal::Limit { code: LONG_SOURCE };
 
-/// Takes the NAL units of bytes in memory in order, and hands on each picture with its last slice. It holds a copy of the
-/// bytes.
+/// A reader of bytes in memory, unit by unit, which lends each picture with its last slice. It holds a copy of the bytes.
 ///
-/// After a refusal or want of memory it goes on no more.
+/// After a refusal or lack of memory every call of `advance` returns `Stopped`.
 #[derive(Drop)]
 pub struct MemoryFeed {
     splitter: Splitter,
-    // How many bytes there are, up to one more than a source may have.
+    // The number of bytes, up to one more than a source may have.
     taken: u64,
     assembler: Assembler,
-    // How many units were taken.
+    // The number of units taken.
     units: u64,
     first: Option<First>,
 }
@@ -64,7 +63,7 @@ impl From<Refusal> for AssembleFault {
     }
 }
 
-/// What first kept a feed from going on, by its answer.
+/// Returns the first fault of a feed, from its error.
 fn first_of(fault: AssembleFault) -> First
     ensures { result ≡ first_by fault }
 {
@@ -76,7 +75,7 @@ fn first_of(fault: AssembleFault) -> First
 }
 
 #[tactic(auto, using(crate::proofs::InMemory::seen_by_count, crate::proofs::InMemory::few_seen))]
-/// As many of the bytes as may be looked at.
+/// Returns the bytes up to the limit.
 fn seen(bytes: &[u8]) -> &[u8]
     ensures seen { result.now ≡ seen_of bytes.now }
     ensures few { length result.now ≤ 2 ^ 40 }
@@ -84,7 +83,7 @@ fn seen(bytes: &[u8]) -> &[u8]
     &bytes[..bytes.len().min(SOURCE_LIMIT as usize)]
 }
 
-/// Feeds them to a splitter that was fed none, and answers how many bytes there are, up to one more than a source may have.
+/// Feeds the bytes to a splitter that was fed none, and returns their number, up to one more than a source may have.
 fn give(splitter: &mut Splitter, bytes: &[u8]) -> Result<u64, AllocError>
     requires unfed { fed splitter.old ≡ 0 }
     requires going { is_all splitter.old ≡ false }
@@ -100,7 +99,7 @@ fn give(splitter: &mut Splitter, bytes: &[u8]) -> Result<u64, AllocError>
     Ok(bytes.len() as u64)
 }
 
-/// Takes the next unit, of so many bytes that were given: what it was, or None at their end.
+/// Takes the next unit, of the `given` bytes, and returns what it was, or `None` at their end.
 fn take_unit(
     splitter: &mut Splitter,
     assembler: &mut Assembler,
@@ -132,7 +131,7 @@ fn take_unit(
     Ok(None)
 }
 
-/// Where a feed comes to that took this unit, or the end; None where it is a unit that completes no picture.
+/// Returns the step of a feed that took this unit, or the end; `None` for a unit that completes no picture.
 fn step_of(assembler: &Assembler, what: Option<Accepted>) -> Option<Step>
     requires { IfSome what (λ accepted. told_by assembler.now ≡ accepted) }
     ensures step { result ≡ step_at what }
@@ -164,11 +163,11 @@ impl MemoryFeed {
     ghost use Rattle.vx_assemble.specs.declared.fault.AssembleFault.TheVariants.{Stopped};
     ghost use Rattle.vx_assemble.specs.declared.feed.Step.TheVariants as steps;
 
-    /// A feed of these bytes that took no units.
+    /// Returns a feed of these bytes that took no units.
     ///
     /// # Errors
     ///
-    /// Want of memory for the bytes.
+    /// `AllocError` if memory runs out.
     pub fn new(alloc: Global, bytes: &[u8]) -> Result<MemoryFeed, AllocError>
         ensures seen { IfOk result (λ f. (R : Readers) → HasSeen R f bytes.now []) }
         ensures going { IfOk result (λ f. f.first ≡ None) }
@@ -186,7 +185,7 @@ impl MemoryFeed {
         })
     }
 
-    /// Takes one unit, or the end: None where it completes no picture.
+    /// Takes one unit, or the end; returns `None` if it completes no picture.
     fn step(&mut self) -> Result<Option<Step>, AssembleFault>
         ensures answer { (R : Readers) → AreOfH266 R → (bytes : List ℕ) (ps qs : List StreamPicture) (ending : Option Ending)
             → HasSeen R self.old bytes ps → AreSourcePictures R bytes qs ending → SeesOn R bytes qs ending ps self.new result }
@@ -219,7 +218,9 @@ impl MemoryFeed {
     ///
     /// # Errors
     ///
-    /// `Refused` with the first rule that is broken; want of memory; `Stopped` with the first of these from then on.
+    /// - `Refused` with the first rule that is broken.
+    /// - `Memory` if memory runs out.
+    /// - `Stopped` with the first of these in every later call.
     pub fn advance(&mut self) -> Result<Step, AssembleFault>
         ensures answer { (R : Readers) → AreOfH266 R → (bytes : List ℕ) (ps qs : List StreamPicture) (ending : Option Ending)
             → HasSeen R self.old bytes ps → AreSourcePictures R bytes qs ending → Sees R bytes qs ending ps self.new result }
@@ -237,14 +238,14 @@ impl MemoryFeed {
         }
     }
 
-    /// How many units were taken.
+    /// Returns the number of units taken.
     pub fn unit(&self) -> u64
         ensures { result ≡ self.now.units }
     {
         self.units
     }
 
-    /// The picture whose last slice was the last unit taken. It takes no memory.
+    /// Returns the picture whose last slice was the last unit taken. Takes no memory.
     pub fn picture(&self) -> Picture<'_>
         requires { HasPicture self.now.assembler }
         ensures { result ≡ lent_by self.now.assembler }

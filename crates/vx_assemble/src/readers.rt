@@ -1,4 +1,4 @@
-//! Sets and headers read.
+//! Reading of sets and headers.
 ghost use Rattle.std.specs.Prelude.{◌≡◌, ◌+◌, ◌<◌, ◌≤◌, drop, length, List, ℕ, Option, IfOk, IfSome, OnOk};
 ghost use Rattle.vx_bits.specs.Limits.{unit_limit};
 ghost use Rattle.vx_rpl.specs.HeaderLists.{lists_of};
@@ -35,16 +35,16 @@ use vx_sh::{SliceHeader, SliceNumbers, read_sh_at};
 use vx_sps::{Sps, read_sps};
 use vx_table::Scope;
 
-/// A slice header, and the place in its unit behind it.
+/// A slice header, and the place in its unit after it.
 #[derive(Drop)]
 pub(crate) struct ReadSlice {
     /// The header.
     pub header: SliceHeader,
-    /// Where slice_data( ) begins.
+    /// The place where slice_data( ) begins.
     pub payload: usize,
 }
 
-/// The items of a VPS.
+/// Returns the items of a VPS.
 pub(crate) fn vps_of(alloc: Global, rbsp: &[u8]) -> Result<Fields, ReadError>
     requires { length rbsp.now ≤ unit_limit }
     ensures { (R : Readers) → AreOfH266 R → Gives (R.vps rbsp.now) result }
@@ -52,7 +52,7 @@ pub(crate) fn vps_of(alloc: Global, rbsp: &[u8]) -> Result<Fields, ReadError>
     read_vps(alloc, rbsp)
 }
 
-/// An SPS.
+/// Returns an SPS.
 pub(crate) fn sps_of(alloc: Global, rbsp: &[u8]) -> Result<Sps, ReadError>
     requires { length rbsp.now ≤ unit_limit }
     ensures { (R : Readers) → AreOfH266 R → Gives (R.sps rbsp.now) result }
@@ -60,7 +60,7 @@ pub(crate) fn sps_of(alloc: Global, rbsp: &[u8]) -> Result<Sps, ReadError>
     read_sps(alloc, rbsp)
 }
 
-/// A PPS.
+/// Returns a PPS.
 pub(crate) fn pps_of(alloc: Global, rbsp: &[u8]) -> Result<Pps, ReadError>
     requires { length rbsp.now ≤ unit_limit }
     ensures { (R : Readers) → AreOfH266 R → Gives (R.pps rbsp.now) result }
@@ -68,7 +68,7 @@ pub(crate) fn pps_of(alloc: Global, rbsp: &[u8]) -> Result<Pps, ReadError>
     read_pps(alloc, rbsp)
 }
 
-/// An APS, or none where it is of a type that is dropped.
+/// Returns an APS, or `None` if its type is dropped.
 pub(crate) fn aps_of(alloc: Global, rbsp: &[u8]) -> Result<Option<Aps>, ReadError>
     requires { length rbsp.now ≤ unit_limit }
     ensures answer { (R : Readers) → AreOfH266 R → Gives (R.aps rbsp.now) result }
@@ -78,7 +78,7 @@ pub(crate) fn aps_of(alloc: Global, rbsp: &[u8]) -> Result<Option<Aps>, ReadErro
     read_aps(alloc, rbsp)
 }
 
-/// The messages of an SEI RBSP that are carried.
+/// Returns the messages of an SEI RBSP that are copied.
 pub(crate) fn messages_of(alloc: Global, rbsp: &[u8]) -> Result<MessageList, AllocError>
     requires { length rbsp.now ≤ unit_limit }
     ensures { (R : Readers) → AreOfH266 R → IfOk result (λ messages. messages ≡ R.sei rbsp.now) }
@@ -87,7 +87,7 @@ pub(crate) fn messages_of(alloc: Global, rbsp: &[u8]) -> Result<MessageList, All
     Ok(carried.unwrap_or(MessageList::new(alloc)))
 }
 
-/// The layout that two sets make up.
+/// Returns the layout that two sets make up.
 pub(crate) fn layout_of(alloc: Global, sps: &Sps, pps: &Pps) -> Result<Layout, ReadError>
     ensures answer { (R : Readers) → AreOfH266 R → Gives (R.layout sps.now pps.now) result }
     ensures numbers { IfOk result (λ layout. layout ≡ numbers_in sps.now pps.now) }
@@ -98,7 +98,7 @@ pub(crate) fn layout_of(alloc: Global, sps: &Sps, pps: &Pps) -> Result<Layout, R
     picture_layout(alloc, sps, pps)
 }
 
-/// The ids of the subpictures of two sets that make up a layout.
+/// Returns the ids of the subpictures of two sets that make up a layout.
 #[tactic(auto, using(crate::proofs::Small::one_each))]
 pub(crate) fn ids_of(alloc: Global, sps: &Sps, pps: &Pps) -> Result<IdList, AllocError>
     requires { MakeLayout sps.now pps.now }
@@ -109,7 +109,7 @@ pub(crate) fn ids_of(alloc: Global, sps: &Sps, pps: &Pps) -> Result<IdList, Allo
     Ok(ids)
 }
 
-/// Takes the bit that comes next, where there is one.
+/// Takes the next bit, if there is one.
 fn skip_bit(bits: &mut BitReader<'_>)
     ensures left { bits.new.left ≡ drop 1 bits.old.left }
     ensures total { bits.new.total ≡ bits.old.total }
@@ -117,7 +117,7 @@ fn skip_bit(bits: &mut BitReader<'_>)
     let _bit = bits.u(1);
 }
 
-/// The bits from a picture header on, which in a slice stands behind the first bit (H.266 7.3.7).
+/// Returns the bits from a picture header on, which comes after the first bit of a slice if it is inside (H.266 7.3.7).
 #[tactic(auto, using(crate::proofs::Answers::behind_bit, crate::proofs::Answers::at_first))]
 pub(crate) fn header_bits(inside: bool, rbsp: &[u8]) -> BitReader<'_>
     requires { length rbsp.now ≤ unit_limit }
@@ -130,7 +130,7 @@ pub(crate) fn header_bits(inside: bool, rbsp: &[u8]) -> BitReader<'_>
     bits
 }
 
-/// ph_pic_parameter_set_id of a picture header, which may stand inside a slice.
+/// Returns ph_pic_parameter_set_id of a picture header, which may be inside a slice.
 pub(crate) fn referred_pps(inside: bool, rbsp: &[u8]) -> Result<u8, ReadError>
     requires { length rbsp.now ≤ unit_limit }
     ensures { (R : Readers) → AreOfH266 R → Gives (R.referred_pps inside rbsp.now) result }
@@ -142,7 +142,7 @@ pub(crate) fn referred_pps(inside: bool, rbsp: &[u8]) -> Result<u8, ReadError>
     }
 }
 
-/// A picture header, which may stand inside a slice, under its sets, whose numbers the scope has.
+/// Returns a picture header, which may be inside a slice, under its sets, whose numbers the scope has.
 #[tactic(auto, using(crate::proofs::Small::header_small))]
 pub(crate) fn header_of(
     alloc: Global,
@@ -167,7 +167,8 @@ pub(crate) fn header_of(
     read_header_at(alloc, &mut bits, sps.table(), scope)
 }
 
-/// The header of a slice, whose unit has this RBSP, and the place in the unit behind it. The scope has the numbers of its sets.
+/// Returns the header of a slice, whose unit has this RBSP, and the place in the unit after it. The scope has the numbers of its
+/// sets.
 pub(crate) fn read_slice(
     alloc: Global,
     unit: &[u8],
@@ -193,7 +194,7 @@ pub(crate) fn read_slice(
     Ok((header, payload))
 }
 
-/// What a slice of a picture is read at, whose first slice is of this type.
+/// Returns what a slice of a picture is read under, if the picture's first slice has this type.
 pub(crate) fn numbers_under<'a>(nal_type: u8, begun: &'a BegunPicture) -> SliceNumbers<'a>
     requires { IsHeader begun.now }
     ensures nal_type { result.nal_type ≡ nal_type }
@@ -214,11 +215,12 @@ pub(crate) fn numbers_under<'a>(nal_type: u8, begun: &'a BegunPicture) -> SliceN
     }
 }
 
-/// The header of a slice of a picture, whose first slice is of this type, from the RBSP of its unit.
+/// Returns the header of a slice of a picture, whose first slice has this type, from the RBSP of its unit.
 ///
 /// # Errors
 ///
-/// The first refusal; want of memory.
+/// - `Refused` with the first refusal.
+/// - `Memory` if memory runs out.
 fn slice_of(
     alloc: Global,
     nal_type: u8,
@@ -237,11 +239,12 @@ fn slice_of(
     Ok(ReadSlice { header, payload })
 }
 
-/// The header of a slice of a picture, whose first slice is of this type.
+/// Returns the header of a slice of a picture, whose first slice has this type.
 ///
 /// # Errors
 ///
-/// The first refusal; want of memory.
+/// - `Refused` with the first refusal.
+/// - `Memory` if memory runs out.
 pub(crate) fn slice_header_of(
     alloc: Global,
     nal_type: u8,

@@ -5,7 +5,7 @@ ghost use Rattle.vx_pic.specs.Rules as words;
 use vx_bits::Refusal;
 use vx_bits::rules::SET_MISSING;
 
-/// Of a rule that names no set.
+/// Returns the refusal of a rule that names no set.
 pub(crate) fn structure(code: u8) -> Refusal
     ensures { result ≡ words.structure code }
 {
@@ -16,7 +16,7 @@ pub(crate) fn structure(code: u8) -> Refusal
     }
 }
 
-/// Of a set that didn't come.
+/// Returns the refusal for a set that is missing.
 pub(crate) fn missing(kind: u8, id: u8) -> Refusal
     ensures { result ≡ words.missing kind id }
 {

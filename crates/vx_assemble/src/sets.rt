@@ -1,5 +1,5 @@
-//! Parameter sets that are stored by their ids. One that is sent again stays as it is, with all that was made of it: it is known by its RBSP, or
-//! else, once read, by its items.
+//! Parameter sets that are stored by their ids. A set that is sent again stays unchanged, with everything made of it. It is
+//! recognized by its RBSP, or by its items once it is read.
 ghost use Rattle.std.specs.Prelude.{◌≡◌, ℕ, ◌<◌, ◌≤◌, List, length, Some, None, Err, IfOk, IfErr, IfSome, IsTrue, OnErr, Result, option_copied};
 ghost use Rattle.std.specs.List.{slice_index_or};
 ghost use Rattle.vx_bits.specs.declared.refusal.Refusal.{Refusal};
@@ -36,24 +36,24 @@ pub(crate) trait ParameterSet: Drop + Sized {
 
     ghost ids: { ℕ };
 
-    /// The set of an RBSP.
+    /// Reads the set of an RBSP.
     fn read(alloc: Global, rbsp: &[u8]) -> Result<Self, ReadError>
         requires { length rbsp.now ≤ unit_limit }
         ensures { (R : Readers) → AreOfH266 R → Gives (reads R rbsp.now) result };
 
-    /// The id of a set whose RBSP begins with a byte.
+    /// Returns the id of a set whose RBSP begins with a byte.
     fn id_in(byte: u8) -> u8;
 
-    /// Its id.
+    /// Returns its id.
     fn id(&self) -> u8
         ensures value { result ≡ id_of self.now }
         ensures few { result < ids };
 
-    /// Whether it was read from this RBSP, which is short.
+    /// Returns whether it was read from this RBSP, which is short.
     fn is_read_from(&self, rbsp: &[u8]) -> bool
         ensures { OnTrue result (IsReadAs reads self.now rbsp.now) };
 
-    /// Whether it is the same as another one.
+    /// Returns whether it is the same as another one.
     fn is_same(&self, other: &Self) -> bool
         ensures { IsTrue result → self.now ≡ other.now };
 }
@@ -120,7 +120,7 @@ impl ParameterSet for Pps {
     }
 }
 
-/// The set that is stored under an id.
+/// Returns the set that is stored under an id.
 pub(crate) fn set_of<S: ParameterSet>(sets: &[Option<Shared<S>>], id: u8) -> Option<&Shared<S>>
     ensures { option_copied result ≡ slice_index_or sets.now id None }
 {
@@ -130,7 +130,7 @@ pub(crate) fn set_of<S: ParameterSet>(sets: &[Option<Shared<S>>], id: u8) -> Opt
     }
 }
 
-/// The id of a set that is stored, and was read from this RBSP: it is sent again.
+/// Returns the id of a stored set that was read from this RBSP, which means that it is sent again.
 #[tactic(auto, using(crate::proofs::Again::is_again))]
 fn sent_again<S: ParameterSet>(sets: &[Option<Shared<S>>], rbsp: &[u8]) -> Option<u8>
     ensures { IfSome result (IsSentAgain S.reads S.id_of sets.now rbsp.now) }
@@ -146,7 +146,7 @@ fn sent_again<S: ParameterSet>(sets: &[Option<Shared<S>>], rbsp: &[u8]) -> Optio
     Some(id)
 }
 
-/// Whether a set is the one that is stored under its id.
+/// Returns whether a set is the one that is stored under its id.
 #[tactic(auto, using(crate::proofs::Again::is_there))]
 fn is_stored<S: ParameterSet>(sets: &[Option<Shared<S>>], id: u8, set: &S) -> bool
     ensures { IsTrue result → slice_index_or sets.now id None ≡ Some set.now }
@@ -157,11 +157,15 @@ fn is_stored<S: ParameterSet>(sets: &[Option<Shared<S>>], id: u8, set: &S) -> bo
     }
 }
 
-/// Stores the set of an RBSP in the place of the one of its id, unless that is the same: its id. What sets made up is kept where none is new.
+/// Stores the set of an RBSP in place of the one with its id, unless that is the same, and returns its id. What sets made up is
+/// kept if none is new.
 ///
 /// # Errors
 ///
-/// The first refusal; want of memory. All is then as it was.
+/// - `Refused` with the first refusal.
+/// - `Memory` if memory runs out.
+///
+/// After an error, everything is unchanged.
 #[tactic(auto, using(crate::proofs::Again::put_again, crate::proofs::Again::put_stored, crate::proofs::Again::put_new))]
 pub(crate) fn put_set<S: ParameterSet>(
     alloc: Global,

@@ -1,11 +1,11 @@
-//! Values that several hold.
+//! Values with several owners.
 ghost use Rattle.std.specs.Prelude.{◌≡◌, IfOk};
 
 use std::alloc::{AllocError, Global};
 use std::marker::Model;
 use std::sync::Arc;
 
-/// A value that several hold. It is seen as the value.
+/// A value with several owners. *Model:* the value.
 #[derive(Drop)]
 pub(crate) struct Shared<T> {
     owner: Arc<T>,
@@ -18,11 +18,11 @@ impl<T> Model for Shared<T> {
 }
 
 impl<T: Drop> Shared<T> {
-    /// A value that one holds.
+    /// Returns a value with one owner.
     ///
     /// # Errors
     ///
-    /// Where memory runs out.
+    /// `AllocError` if memory runs out.
     pub(crate) fn new(alloc: Global, value: T) -> Result<Shared<T>, AllocError>
         ensures { IfOk result (λ shared. shared ≡ value) }
     {
@@ -32,11 +32,11 @@ impl<T: Drop> Shared<T> {
         }
     }
 
-    /// The same value, for one more. It takes no memory.
+    /// Returns the same value, for one more owner. Takes no memory.
     ///
     /// # Errors
     ///
-    /// Where as many hold it as can be counted.
+    /// `AllocError` if it has as many owners as can be counted.
     pub(crate) fn share(&self) -> Result<Shared<T>, AllocError>
         ensures { IfOk result (λ shared. shared ≡ self.now) }
     {
@@ -44,7 +44,7 @@ impl<T: Drop> Shared<T> {
         Ok(Shared { owner })
     }
 
-    /// The value.
+    /// Returns the value.
     pub(crate) fn value(&self) -> &T
         ensures { result.now ≡ self.now }
     {

@@ -1,4 +1,4 @@
-//! Slices taken.
+//! Slices that are taken.
 ghost use Rattle.std.specs.Prelude.{◌≡◌, ◌+◌, ◌<◌, ◌≤◌, false, [], length, List, Some, IfOk, OnOk};
 ghost use Rattle.vx_pic.specs.declared.accepted.Accepted.TheVariants.{PictureDone};
 ghost use Rattle.vx_pic.specs.Readings.{Begun, Reading, Picture, current, going, is_whole};
@@ -30,7 +30,7 @@ use vx_sei::MessageList;
 /// What a picture begins with, at its first slice.
 #[derive(Drop)]
 pub(crate) struct Opened {
-    /// What it is.
+    /// The picture's kind.
     pub kind: Kind,
     /// Its adaptation parameter sets.
     pub bodies: ApsList,
@@ -38,16 +38,16 @@ pub(crate) struct Opened {
     pub read: ReadSlice,
 }
 
-/// What later pictures come to behind a whole one.
+/// What later pictures need after a whole one.
 #[derive(Drop)]
 pub(crate) struct Whole {
     /// Its sets.
     pub sets: Shared<InForce>,
-    /// What counts come from.
+    /// What counts are computed from.
     pub previous: PrevTid0,
 }
 
-/// What is known of the header of a unit: the lengths of its fields (H.266 7.3.1.2). Does nothing.
+/// States the bounds of the header of a unit, from the lengths of its fields (H.266 7.3.1.2). Does nothing.
 fn header_is_low(unit: SliceUnit<'_>)
     ensures { (unit.entry.header.nal_type < 32) × (unit.entry.header.temporal_id < 7) }
 {
@@ -55,11 +55,12 @@ fn header_is_low(unit: SliceUnit<'_>)
 }
 
 impl State {
-    /// What the picture of the header that came last begins with, at this unit.
+    /// Returns what the picture of the last header begins with, at this unit.
     ///
     /// # Errors
     ///
-    /// The first rule that it breaks; want of memory.
+    /// - `Refused` with the first rule that it breaks.
+    /// - `Memory` if memory runs out.
     fn open_first(
         &self,
         alloc: Global,
@@ -93,11 +94,11 @@ impl State {
         Ok(Opened { kind, bodies, read })
     }
 
-    /// Puts a slice behind the others; no messages are gathered then, and no sequence has ended.
+    /// Appends a slice. Then no messages are gathered, and no sequence has ended.
     ///
     /// # Errors
     ///
-    /// Where memory runs out.
+    /// `AllocError` if memory runs out.
     #[tactic(auto, unfolding(vx_pic::specs::Rules::picture_limit))]
     fn put_slice(&mut self, alloc: Global, unit: &[u8], read: ReadSlice) -> Result<(), AllocError>
         requires order { IsInOrder self.old }
@@ -122,11 +123,11 @@ impl State {
         Ok(())
     }
 
-    /// Puts what a picture begins with.
+    /// Stores what a picture begins with.
     ///
     /// # Errors
     ///
-    /// Where memory runs out.
+    /// `AllocError` if memory runs out.
     fn put_first(&mut self, alloc: Global, unit: &[u8], opened: Opened) -> Result<(), AllocError>
         requires order { IsInOrder self.old }
         requires size { length self.old.picture.bytes + length unit.now ≤ picture_limit }
@@ -144,11 +145,11 @@ impl State {
         self.put_slice(alloc, unit, opened.read)
     }
 
-    /// What later pictures come to behind the picture that was begun, where all its slices came.
+    /// Returns what later pictures need after the picture that was begun, if all its slices were taken.
     ///
     /// # Errors
     ///
-    /// Where the sets have as many owners as can be counted.
+    /// `AllocError` if the sets have as many owners as can be counted.
     fn whole(&self) -> Result<Option<Whole>, AllocError>
         ensures { IfOk result (λ whole. whole ≡ whole_of self.now.picture.stage self.now) }
     {
@@ -165,11 +166,11 @@ impl State {
         }))
     }
 
-    /// Tells whether a picture is done with its last slice, and keeps what later pictures come to then.
+    /// Returns whether a picture is complete with its last slice, and keeps what later pictures then need.
     ///
     /// # Errors
     ///
-    /// Where memory runs out, and all is then as it was.
+    /// `AllocError` if memory runs out. Everything is then unchanged.
     fn settle(&mut self) -> Result<Accepted, AllocError>
         requires order { IsInOrder self.old }
         requires some { 0 < length self.old.picture.slices }
@@ -186,7 +187,7 @@ impl State {
         Ok(Accepted::PictureDone)
     }
 
-    /// Takes the first slice of the picture whose header came.
+    /// Takes the first slice of the picture whose header was taken.
     fn take_first(&mut self, alloc: Global, unit: SliceUnit<'_>) -> Result<Accepted, ReadError>
         requires { IsInOrder self.old }
         ensures answer { (R : Readers) → AreOfH266 R → (before : List Reading) → IsApart self.old before → (b : Begun) → IsHeaded self.old.picture b

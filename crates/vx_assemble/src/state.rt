@@ -18,7 +18,7 @@ use vx_sps::Sps;
 pub(crate) struct BegunPicture {
     /// ph_pic_parameter_set_id.
     pub pps_id: u8,
-    /// The sets that it refers to.
+    /// The sets to which it refers.
     pub sets: Shared<InForce>,
     /// The header.
     pub header: PictureHeader,
@@ -26,34 +26,34 @@ pub(crate) struct BegunPicture {
     pub temporal_id: u8,
 }
 
-/// A picture whose first slice came.
+/// A picture whose first slice was taken.
 #[derive(Drop)]
 pub(crate) struct GoingPicture {
     /// Its header.
     pub begun: BegunPicture,
-    /// What it is.
+    /// Its kind.
     pub kind: Kind,
 }
 
-/// How far a picture came.
+/// How far a picture has been taken.
 #[derive(Drop)]
 pub(crate) enum Stage {
-    /// None was begun.
+    /// No picture was begun.
     Nothing,
-    /// Its header came.
+    /// Its header was taken.
     Headed(BegunPicture),
-    /// Its header came, and its first slice.
+    /// Its header and its first slice were taken.
     Going(GoingPicture),
 }
 
-/// The picture that was begun last, as far as its slices came.
+/// The picture that was begun last, with the slices taken so far.
 #[derive(Drop)]
 pub(crate) struct CurrentPicture {
-    /// How far it came.
+    /// How far it has been taken.
     pub stage: Stage,
     /// The bytes of its PH unit, and of its slices' units.
     pub bytes: Bytes,
-    /// Where the PH unit ends.
+    /// The place where the PH unit ends.
     pub header_end: usize,
     /// Its slices.
     pub slices: SliceSlots,
@@ -63,7 +63,7 @@ pub(crate) struct CurrentPicture {
     pub messages: MessageList,
 }
 
-/// The sets that a PPS id refers to, and what they make up.
+/// The sets to which a PPS id refers, and what they make up.
 #[derive(Drop)]
 pub(crate) struct MadeSets {
     /// The id.
@@ -75,27 +75,27 @@ pub(crate) struct MadeSets {
 /// What is kept of the units that were taken.
 #[derive(Drop)]
 pub(crate) struct State {
-    /// The SPSs that are stored, by their ids.
+    /// The stored SPSs, by their ids.
     pub sps: [Option<Shared<Sps>>; 16],
-    /// The PPSs that are stored, by their ids.
+    /// The stored PPSs, by their ids.
     pub pps: [Option<Shared<Pps>>; 64],
-    /// The sets of the latest picture header, where they are stored still.
+    /// The sets of the latest picture header, if they are still stored.
     pub made: Option<MadeSets>,
-    /// The adaptation parameter sets that are stored.
+    /// The stored adaptation parameter sets.
     pub aps: ApsList,
-    /// The items of the last unit that is told by items of its own.
+    /// The items of the last unit that has a result with items of its own.
     pub fields: Fields,
     /// The picture that was begun last.
     pub picture: CurrentPicture,
     /// The messages gathered since the last slice.
     pub gathered: MessageList,
-    /// The bytes of these as they are spelled.
+    /// The number of bytes of these when coded.
     pub gathered_len: usize,
     /// The sets of the last whole picture.
     pub last: Option<Shared<InForce>>,
     /// Whether the SPS of the picture that was begun last is known to be that of the last whole one.
     pub unchanged: bool,
-    /// What counts come from.
+    /// What counts are computed from.
     pub previous: PrevTid0,
     /// Whether a sequence ended since the last slice.
     pub ended: bool,
@@ -103,7 +103,7 @@ pub(crate) struct State {
 
 impl State {
     #[tactic(auto, using(crate::proofs::Bodies::no_bodies))]
-    /// What is kept of no units.
+    /// Returns what is kept of no units.
     pub(crate) fn new(alloc: Global) -> State
         ensures held { IsHeld result [] }
         ensures order { IsInOrder result }

@@ -32,7 +32,7 @@ pub(crate) struct NalUnit<'a> {
 }
 
 impl<'a> NalUnit<'a> {
-    /// The unit of this header, which has these bytes without its emulation bytes.
+    /// Returns the unit with this header, of which `plain` are the bytes without emulation prevention bytes.
     #[tactic(auto, unfolding(vx_pic::specs::Units::rbsp_of))]
     pub(crate) fn new(bytes: &'a [u8], header: NalHeader, plain: &'a [u8]) -> NalUnit<'a>
         requires sound { IsSound bytes.now }
@@ -48,7 +48,7 @@ impl<'a> NalUnit<'a> {
         }
     }
 
-    /// Whether the picture header stands inside, of a slice (H.266 7.3.7).
+    /// Returns whether a slice has the picture header inside (H.266 7.3.7).
     #[tactic(auto, unfolding(vx_pic::specs::Units::has_header_inside))]
     fn has_header_inside(&self) -> bool
         ensures { result ≡ has_header_inside self.now.bytes.now }
@@ -59,7 +59,7 @@ impl<'a> NalUnit<'a> {
         }
     }
 
-    /// It as a slice's.
+    /// Returns it as a slice's unit.
     pub(crate) fn as_slice(self) -> SliceUnit<'a>
         ensures { result.bytes.now ≡ self.entry.bytes.now }
     {
@@ -71,7 +71,7 @@ impl<'a> NalUnit<'a> {
     }
 }
 
-/// The header of a unit, as framing gives it.
+/// Returns the header of a unit, as framing returns it.
 pub(crate) fn nal_header(unit: &[u8]) -> NalHeader
     requires { IsSound unit.now }
     ensures { result ≡ header_of unit.now }
@@ -79,10 +79,10 @@ pub(crate) fn nal_header(unit: &[u8]) -> NalHeader
     read_header(unit).unwrap()
 }
 
-/// The most bytes of a slice's unit that its headers are read from, where they end there.
+/// The greatest number of bytes of a slice's unit from which its headers are read, if they end there.
 const FRONT: usize = 512;
 
-/// The first bytes of a unit, which are a unit too.
+/// Returns the first bytes of a unit, which are also a unit.
 pub(crate) fn front_of(unit: &[u8]) -> &[u8]
     requires { IsSound unit.now }
     ensures front { IsFront result.now unit.now }
@@ -92,14 +92,14 @@ pub(crate) fn front_of(unit: &[u8]) -> &[u8]
     &unit[..unit.len().min(FRONT)]
 }
 
-/// The bytes behind the header.
+/// Returns the bytes after the header.
 pub(crate) fn behind_header(bytes: &[u8]) -> &[u8]
     ensures { result.now ≡ drop 2 bytes.now }
 {
     if bytes.len() < 2 { &[] } else { &bytes[2..] }
 }
 
-/// A slice's NAL unit. Its payload isn't passed: the headers are read from the front, where they end there.
+/// A slice's NAL unit. Its payload isn't unescaped: the headers are read from the first bytes, if they end there.
 #[derive(Clone, Copy)]
 pub(crate) struct SliceUnit<'a> {
     /// Its bytes.
@@ -114,7 +114,7 @@ pub(crate) struct SliceUnit<'a> {
 }
 
 impl<'a> SliceUnit<'a> {
-    /// The unit whose front has these bytes without its emulation bytes.
+    /// Returns the unit whose first bytes have the bytes `plain` without emulation prevention bytes.
     pub(crate) fn new(
         bytes: &'a [u8],
         header: NalHeader,
@@ -138,7 +138,7 @@ impl<'a> SliceUnit<'a> {
         }
     }
 
-    /// The whole unit, which has these bytes without its emulation bytes.
+    /// Returns the whole unit, of which `plain` are the bytes without emulation prevention bytes.
     pub(crate) fn whole(&self, plain: &'a [u8]) -> NalUnit<'a>
         requires value { plain.now ≡ unescaped self.now.bytes.now }
         requires size { length plain.now ≤ length self.now.bytes.now }
@@ -147,7 +147,7 @@ impl<'a> SliceUnit<'a> {
         NalUnit::new(self.bytes, self.header, plain)
     }
 
-    /// Whether the picture header stands inside (H.266 7.3.7).
+    /// Returns whether the picture header is inside (H.266 7.3.7).
     pub(crate) fn has_header_inside(&self) -> bool
         ensures { result ≡ has_header_inside self.now.bytes.now }
     {
@@ -155,7 +155,7 @@ impl<'a> SliceUnit<'a> {
     }
 }
 
-/// What a type of NAL units is.
+/// The class of a NAL unit type.
 #[derive(Clone, Copy, Debug, PartialEq, Eq)]
 pub(crate) enum UnitClass {
     /// A type that is dropped.
@@ -168,7 +168,7 @@ pub(crate) enum UnitClass {
     Pps,
     /// An adaptation parameter set before slices.
     PrefixAps,
-    /// An adaptation parameter set that may stand behind slices.
+    /// An adaptation parameter set that may come after slices.
     SuffixAps,
     /// A picture header.
     Header,
@@ -180,7 +180,7 @@ pub(crate) enum UnitClass {
     Sei,
 }
 
-/// What the types behind those of sets and headers are.
+/// Returns the class of the types after those of sets and headers.
 fn class_behind_sets(nal_type: u8) -> UnitClass
     ensures { class_seen result ≡ class_behind_sets nal_type }
 {
@@ -194,7 +194,7 @@ fn class_behind_sets(nal_type: u8) -> UnitClass
     }
 }
 
-/// What a type is.
+/// Returns the class of a type.
 #[tactic(auto, unfolding(vx_pic::specs::Units::class_of))]
 pub(crate) fn class_of(nal_type: u8) -> UnitClass
     ensures { class_seen result ≡ units.class_of nal_type }

@@ -1,4 +1,4 @@
-//! Units taken, by their type.
+//! Units that are taken, by their type.
 ghost use Rattle.std.specs.Prelude.{◌≡◌, ◌<◌, ℕ, List, IfOk, IfSome};
 ghost use Rattle.vx_annexb.specs.NalUnit.{header_of};
 ghost use Rattle.vx_annexb.specs.ByteStream.{IsSound};
@@ -27,7 +27,7 @@ use vx_bits::{Fields, Item, ReadError, Refusal};
 use vx_fields::aps::{aps_adaptation_parameter_set_id, aps_params_type};
 use vx_pic::Accepted;
 
-/// The items that tell an APS: its type and its id.
+/// Returns the items of an APS: its type and its id.
 fn aps_items(alloc: Global, aps: &Aps) -> Result<Fields, AllocError>
     ensures { IfOk result (λ items. items ≡ held.aps_items aps.now) }
 {
@@ -44,7 +44,7 @@ fn aps_items(alloc: Global, aps: &Aps) -> Result<Fields, AllocError>
 }
 
 impl State {
-    /// Whether no picture came in part: within one stands no set that slices refer to.
+    /// Checks that no picture is incomplete: within one, no set may come to which slices refer.
     ///
     /// # Errors
     ///
@@ -59,7 +59,7 @@ impl State {
         Ok(())
     }
 
-    /// Whether all slices came of the picture that was begun last.
+    /// Checks that all slices of the picture that was begun last were taken.
     ///
     /// # Errors
     ///
@@ -114,7 +114,7 @@ impl State {
         Ok(Accepted::Pps(id))
     }
 
-    /// Takes an APS, wherever it may stand.
+    /// Takes an APS, which may come anywhere.
     #[tactic(auto, using(crate::proofs::Taking::took_aps, crate::proofs::Taking::failed_aps, crate::proofs::Taking::dropped_aps))]
     fn take_suffix_aps(&mut self, alloc: Global, unit: NalUnit<'_>) -> Result<Accepted, ReadError>
         requires { IsInOrder self.old }
@@ -135,7 +135,7 @@ impl State {
         Ok(told)
     }
 
-    /// Takes an APS that has to stand before slices.
+    /// Takes an APS that must come before slices.
     fn take_prefix_aps(&mut self, alloc: Global, unit: NalUnit<'_>) -> Result<Accepted, ReadError>
         requires { IsInOrder self.old }
         ensures answer { (R : Readers) → AreOfH266 R → (before : List Reading) → IsHeld self.old before
@@ -222,7 +222,7 @@ impl State {
         }
     }
 
-    /// Takes a slice, of which the bytes are passed no further than its header goes.
+    /// Takes a slice, of which the bytes are unescaped only up to the end of its header.
     fn take_slice_unit(
         &mut self,
         alloc: Global,
@@ -243,7 +243,7 @@ impl State {
         self.take_slice(alloc, slice)
     }
 
-    /// Takes a unit of a class, of which all bytes are passed.
+    /// Takes a unit of a class, of which all bytes are unescaped.
     fn take_whole_unit(
         &mut self,
         alloc: Global,
@@ -268,7 +268,8 @@ impl State {
     ///
     /// # Errors
     ///
-    /// The rule that it breaks behind those before it; want of memory.
+    /// - `Refused` with the rule that it breaks, after those before it.
+    /// - `Memory` if memory runs out.
     #[tactic(auto, unfolding(vx_pic::specs::Units::is_reserved))]
     pub(crate) fn take(&mut self, alloc: Global, unit: &[u8]) -> Result<Accepted, ReadError>
         requires order { IsInOrder self.old }

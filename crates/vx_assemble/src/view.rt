@@ -1,4 +1,4 @@
-//! What looks at each unit before it is taken.
+//! Views that look at each unit before it is taken.
 ghost use Rattle.std.specs.Prelude.{◌≡◌, ℕ, List, OnOk};
 ghost use Rattle.vx_annexb.specs.ByteStream.{IsSound};
 ghost use Rattle.vx_pic.specs.Readings.{Reading};
@@ -10,8 +10,7 @@ use crate::assembler::Assembler;
 use std::alloc::AllocError;
 use vx_pic::StructureFields;
 
-/// What looks at each unit before it is taken, behind those that were: [`StructureFields`] sees the fields that it spells, and `()` sees
-/// nothing of it.
+/// A view that looks at each unit before it is taken. [`StructureFields`] sees the fields of the unit, and `()` sees nothing.
 pub trait UnitView {
     ghost use Rattle.std.specs.Prelude.{◌≡◌, ℕ, List, OnOk};
     ghost use Rattle.vx_annexb.specs.ByteStream.{IsSound};
@@ -28,7 +27,7 @@ pub trait UnitView {
     fn look_away(&mut self, assembler: &Assembler)
         ensures { self.new ≡ nothing };
 
-    /// Sees a unit that the assembler is to take next.
+    /// Looks at the unit that the assembler takes next.
     fn look(&mut self, assembler: &Assembler, unit: &[u8]) -> Result<(), AllocError>
         requires { IsSound unit.now }
         ensures { OnOk result ((R : Readers) (h : AreOfH266 R) (before : List Reading) → Stands assembler.now before
