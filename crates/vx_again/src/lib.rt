@@ -1,5 +1,7 @@
-//! Laws of merged streams: what is written for the rounds of several sources is read again as their merge, by any readers that are those of
-//! H.266. This crate has laws alone.
+//! States laws of merged streams: what is written for the rounds of several sources is read again as their merge.
+//!
+//! They hold for all readers of H.266. [`merge_is_read_again`] is the law of whole merges. This crate has only laws; its statements are
+//! in `specs`.
 #![tactic(auto)]
 
 mod laws_rounds;

@@ -1,4 +1,7 @@
-//! The program: reads VVC byte streams, as its words say, and tells how it ended.
+//! The program `goosequince`: runs `vx_run` on the system's files, standard output and standard error.
+//!
+//! `main` takes the arguments without the program's name, `open` opens the files that they name, and `files` runs the command on them. A
+//! file that can't be opened becomes a source whose reads fail. Definitions in `specs`: `Opened`.
 #![tactic(auto)]
 
 mod files;

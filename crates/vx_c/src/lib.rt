@@ -1,7 +1,9 @@
-//! The library in C: what a program in C, or in a language that calls C, links as `libgoosequince`. Its interface is the header
-//! `include/goosequince.h`.
+//! The C library `libgoosequince`: mergers, extractors and `gq_run` for C, and for languages that call C.
 //!
-//! A handle is of a merger, of an extractor, or of none. No export requires anything: what isn't so is answered.
+//! Its interface is the header `include/goosequince.h`. The exports are in `merger`, `extractor`, `whole` and `version`. They require
+//! nothing of their arguments: misuse returns a status. A [`Handle`](handle::Handle) holds a merger, an extractor, or nothing.
+//!
+//! Definitions in `specs`: `Handles` and `Call` for handles, `Merger` and `Extractor` for their calls, `InMemory` for `gq_run`.
 #![tactic(auto)]
 
 mod corners;

@@ -1,12 +1,12 @@
-//! Calls below structures, made as lines say: bits and codes, lists, sources and sinks, byte streams, layouts, placements, tables,
-//! RBSPs, and units that are written. Each line of the input names a call, or calls of one object in turn, and one line tells what is
-//! answered.
+//! A test program: makes the calls of lower crates that its input lines name, and prints one line for each result.
 //!
-//! The file stdout has the right answers, which a script makes without this program. A line that can't be read, or that asks for a
-//! call whose condition doesn't hold, ends the program with status 2. Empty lines and lines of `#` are no calls.
+//! A line names one call, or several calls on one object. They cover bits and codes, lists, sources and sinks, byte streams, layouts,
+//! placements, tables, RBSPs, and units that are written. `rt ci` compares the output with the file stdout, which a script makes without
+//! this program. A line that can't be read, or whose call would break its precondition, ends the program with status 2. Empty lines and
+//! lines that begin with `#` are skipped.
 //!
-//! Bytes are hexadecimal digits, `HEX*N` for these N times, several such parts with `+` between them, or `-` for none. More than 64
-//! bytes are told by their number and their Adler-32. `sum` before a line tells so of its whole answer.
+//! Bytes are hexadecimal digits, `HEX*N` for N repetitions, several such parts joined by `+`, or `-` for none. More than 64 bytes are
+//! printed as their number and their Adler-32. `sum` before a line does the same for its whole result.
 #![tactic(auto)]
 
 mod bits;

@@ -1,21 +1,23 @@
-//! Runs the program on cases that it reads, over sources and sinks in memory, and tells what each comes to.
+//! A test program: runs the program's commands over sources and sinks in memory, case by case, and prints each result.
 //!
-//! The input is lines of words. A line that can't be read ends the program with status 2.
+//! Input lines consist of words. A line that can't be read ends the program with status 2.
 //!
-//! - `stream NAME PART ..` names bytes. A part is bytes in hexadecimal, these a number of times, as `5aa7*100`, or `-` for none.
-//! - `case WORD ..` runs the program with these words, in which a file is the name of bytes. It makes one line, as
-//!   `status=1 err=E1_picture_0 out=-`: the status; the line on `err`, with its blanks as `_`, and `~` behind one that was cut short;
-//!   and what was written on `out`, in hexadecimal. Either is `-` where it is nothing.
-//! - `pieces END NUMBER ..` says how many bytes the calls of a source or a sink take, in turn, and `fail END NUMBER ..` which calls fail,
-//!   from 0. END is `out`, `err`, the number of a source, or `all` for each source.
-//! - `closed NUMBER` says that this source always fails.
-//! - `keep NAME` names what is written on `out`, and the line has `out=kept` for it.
-//! - `generated SEED SOURCES PICTURES NUMBER` makes one line: the bytes of this one of so many streams, made from SEED, in hexadecimal.
-//! - `pushed LENGTH ORDER WORD ..` does what `merge` or `extract` does with these words, but hands their sources in, in pieces of so many
-//!   bytes: with ORDER `turns` a piece of each in turn, with `sources` of one after another all that is taken. Its line is as that of a case.
-//! - `#` begins what is no line.
+//! - `stream NAME PART ..` names bytes. A part is bytes in hexadecimal, such bytes repeated, as `5aa7*100`, or `-` for none.
+//! - `case WORD ..` runs the program with these arguments; a file is the name of bytes. It prints a line such as `status=1
+//!   err=E1_picture_0 out=-`: the status, the line on `err`, and the output in hexadecimal. The line on `err` has `_` for each blank, and
+//!   ends with `~` if it was cut short. Either is `-` if it is empty.
+//! - `pieces END NUMBER ..` sets how many bytes the calls of a source or sink transfer, in turn, and `fail END NUMBER ..` sets which
+//!   calls fail, counted from 0. END is `out`, `err`, the number of a source, or `all` for each source.
+//! - `closed NUMBER` makes each read of this source fail.
+//! - `keep NAME` names the bytes written on `out`, and the line has `out=kept` in their place.
+//! - `generated SEED SOURCES PICTURES NUMBER` prints in hexadecimal the bytes of stream NUMBER of the SOURCES streams that are generated
+//!   from SEED.
+//! - `pushed LENGTH ORDER WORD ..` runs the `merge` or `extract` of these arguments with sources that are pushed in pieces of LENGTH
+//!   bytes. ORDER `turns` pushes a piece of each source in turn, `sources` pushes of one source after another all that is taken. The line
+//!   is like that of a case.
+//! - `#` begins a comment line.
 //!
-//! All lines but `stream`, `generated` and `pushed` hold for the next case alone.
+//! All lines except `stream`, `generated` and `pushed` apply only to the next case.
 #![tactic(auto)]
 
 mod generated;

@@ -1,4 +1,7 @@
-//! What there is to tell of the rules that refusals name, and of the fields that they name by numbers.
+//! Explains the rules that refusals name, and the fields that they name by number, for `--explain`.
+//!
+//! [`explanation`] finds the text of a word. `scripts/explanations.py` makes the texts. [`rules_and_fields_are_explained`] is the law
+//! that each rule and each field has one. Definitions in `specs`: `Explained`.
 #![tactic(auto)]
 
 mod laws;

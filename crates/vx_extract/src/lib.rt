@@ -1,7 +1,11 @@
-//! A subpicture of each picture of a stream, written as a stream of its own (H.266 C.7).
+//! Extracts one subpicture of each picture of a stream, and writes it as a stream of its own (H.266 C.7).
 //!
-//! The picture headers and the slices are written as they stand; the SPS and the PPS are rewritten for the subpicture, and parameter
-//! sets are sent where a receiver doesn't have them.
+//! - [`Extractor`] takes picture after picture. It keeps picture headers and slices as they are, rewrites the SPS and PPS for the
+//!   subpicture, and sends parameter sets that a receiver doesn't have.
+//! - [`WriteError`] is why a picture isn't written, [`WriteFirst`] what later pictures are refused with.
+//! - Laws say what is written, what stays, and that the whole is read again: [`extraction_reads_again`].
+//!
+//! Definitions in `specs`: `Rules` has the rules, `Written` what is written of a picture, `Whole` what is written of a stream.
 #![tactic(auto)]
 
 mod extractor;

@@ -1,9 +1,12 @@
-//! A round of pictures, one of each source, that are to become one picture (H.266 6.3.1): which rules keep them from it, and the frame
-//! that they make up where none does.
+//! Checks whether a round, one picture of each source, can become one picture, and makes its frame (H.266 6.3.1).
 //!
-//! [`sound_frame`] tells the first rule that a round breaks, or gives its frame, the one that was kept or a new one: its layout, its SPS
-//! and its PPS, with what [`round_bodies`] finds of its adaptation parameter sets. A frame serves later rounds with the same sets. The
-//! rules are defined in the folder `specs`.
+//! - [`sound_frame`] returns the first rule that a round breaks, or its [`Frame`]: layout, SPS and PPS. A kept frame serves later rounds
+//!   with the same sets.
+//! - [`round_bodies`] collects what the rules, and the sets that are sent, need of the adaptation parameter sets.
+//! - [`Corner`] is where a region begins in the frame.
+//! - [`verdict_is_one`] is the law that the rules determine the verdict.
+//!
+//! The rules are defined in `specs`, `Rules`.
 #![tactic(auto)]
 
 mod bodies;

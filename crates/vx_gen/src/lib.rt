@@ -1,4 +1,8 @@
-//! Streams that are made from a number: small pictures whose slice data is drawn, under sets that differ from stream to stream in a QP.
+//! Generates streams from a number: small pictures with drawn slice data.
+//!
+//! Their sets differ from stream to stream in a QP. [`generate`] makes the bytes. Laws say what they are: [`generated_are_read`],
+//! [`generated_break_no_rule`], [`generated_are_merged`] and those beside them. Definitions in `specs`: `Streams` for the bytes,
+//! `Pictures` for what they mean.
 #![tactic(auto)]
 
 mod draws;

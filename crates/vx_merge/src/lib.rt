@@ -1,10 +1,13 @@
-//! Several streams put together as one: each picture of the result has one picture of each source as a subpicture (H.266 6.3.1).
+//! Merges several streams into one: each merged picture has one picture of each source as a subpicture (H.266 6.3.1).
 //!
-//! [`Merger::round`] writes what a round of pictures, one of each source, is put together as, behind the rounds before it, or tells the
-//! first rule that they break. [`Merger::check`] tells whether they can be put together, and else the first rule that
-//! they break. [`Merger::joined_round`] joins a round behind those before it, behind an end of sequence. The rules of a round are
-//! defined in the folder `specs` of `vx_frame`, those of a join and the limits in that of this crate. [`lengths`] tells which sources have
-//! ended.
+//! - [`Merger::round`] writes the merged picture of a round, which is one picture of each source, or returns the first rule that the
+//!   round breaks.
+//! - [`Merger::check`] checks a round by the same rules and writes nothing.
+//! - [`Merger::joined_round`] writes a round after an end of sequence.
+//! - [`lengths`] reports which sources have ended.
+//! - [`merged_is_one`] is the law that a round determines what is written.
+//!
+//! Definitions: the rules of a round are in `specs` of `vx_frame`, those of a join and the limits in `specs` of this crate.
 #![tactic(auto)]
 
 mod ended;

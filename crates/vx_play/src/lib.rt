@@ -1,6 +1,6 @@
-//! Which file of each region is read, where the files of a region are read one behind another.
+//! Schedules which file of each region is read, when the files of a region are played one after another.
 //!
-//! A [`Schedule`] numbers regions and files alone: it knows nothing of what the files are.
+//! A [`Schedule`] knows only numbers of regions and files, nothing of what the files contain. Definitions in `specs`: `Scheduled`.
 #![tactic(auto)]
 
 mod schedule;

@@ -1,6 +1,13 @@
-//! The program over words, sources and sinks: [`run`] does what the words ask for, and [`run_whole`] writes what was gathered too.
+//! Runs the program's commands over byte sources and sinks; everything except opening files.
 //!
-//! What it does is defined in the folder `specs`: `Grammar` has the words that are understood, `Run` what each command does.
+//! - [`run`] runs the command that the arguments ask for, writes a line on `err` if it isn't done, and returns the exit status.
+//!   [`run_whole`] also writes what the output buffer, a [`GatherSink`], holds at the end.
+//! - [`file_count`] and [`file_word`] return the files that the arguments name, so that the caller can open one source for each.
+//! - [`Stop`] is the reason why a command ends early, and [`Place`] where it broke a rule.
+//! - Laws: [`status_is_exact`], [`status_2_is_exact`] and [`too_many_are_refused`] relate the status to the sources. [`merge_ends_once`],
+//!   [`play_ends_once`] and [`verify_ends_once`] relate the ends that these commands can have.
+//!
+//! Definitions in `specs`: `Grammar` has the arguments that are understood, and `Run` what each command does.
 #![tactic(auto)]
 
 mod about;

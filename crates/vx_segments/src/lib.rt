@@ -1,6 +1,7 @@
-//! Laws of merges of segments: where each segment begins with an IRAP or GDR picture and ends without messages, none has an end of sequence, and
-//! no rule refuses a segment or the joined streams, merges of segments, one after another, are the merge of the joined streams. This crate has
-//! laws alone.
+//! States laws of merges of segments: merging segment by segment and joining the results is merging the joined streams.
+//!
+//! [`merges_are_one`] has the premises: each segment begins with an IRAP or GDR picture and ends without messages, no segment has an end
+//! of sequence, and no rule refuses a segment or the joined streams. This crate has only laws; its statements are in `specs`.
 #![tactic(auto)]
 
 mod laws;

@@ -1,5 +1,7 @@
-//! A trial of the whole: streams that are made from a number are merged side by side in memory, and each region of the merge is extracted;
-//! and what is counted of it.
+//! Tests the whole chain: generates streams from a number, merges them side by side in memory, and extracts each region.
+//!
+//! [`trial`] does this and returns a [`Tally`]: counts of pictures, slices and bytes, and a weight of all bytes. Definitions in `specs`:
+//! `Trial`.
 #![tactic(auto)]
 
 mod feeds;

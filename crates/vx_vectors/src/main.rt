@@ -1,8 +1,10 @@
-//! The program: reads vectors line by line, and answers each as a model of the format does.
+//! A test program: reads sets, headers and NAL units line by line, and prints what it finds in each.
 //!
-//! A line `vps`, `sps`, `pps` or `aps` has the RBSP of a set, a line `stream` begins a stream, `unit` has its next NAL unit, and
-//! `pictures` asks for its pictures. What is answered stands in the file stdout, which a script writes from the model's answers.
-//! Further lines ask about a call of a library by itself: module `calls` has their words.
+//! - A line `vps`, `sps`, `pps` or `aps` has the RBSP of a set.
+//! - A line `stream` begins a stream, `unit` has its next NAL unit, and `pictures` prints its pictures.
+//! - Other lines call one function of a library; module `calls` lists them.
+//!
+//! `rt ci` compares the output with the file stdout, which a script writes from the answers of an independent model.
 #![tactic(auto)]
 
 mod alone;

@@ -1,8 +1,11 @@
-//! Whether a stream is the sources that it is said to be put together of, picture by picture: each subpicture of the finished stream's has
-//! the place of its source, and the decoding inputs of the source's picture.
+//! Verifies that a finished stream is a merge of given sources, picture by picture.
 //!
-//! [`Verifier::round`] tells it of a round, which is one picture of the finished stream and of each source, or what differs first. What
-//! that means is defined in the folder `specs`. Files are numbered: 0 is the finished stream, and behind it stand the sources.
+//! - [`Verifier::round`] compares one picture of the finished stream with one of each source: each subpicture must be at its source's
+//!   [`Spot`] and have the decoding inputs of the source's picture. It returns the first [`Mismatch`].
+//! - [`mismatch_line`] makes the line of a mismatch.
+//! - Laws: [`mismatch_is_one`], [`verified_has_none`].
+//!
+//! File 0 is the finished stream; the sources are numbered from 1. Definitions in `specs`: `Verified`.
 #![tactic(auto)]
 
 mod checks;

@@ -1,5 +1,14 @@
-//! What writing subpictures as streams of their own and merging them have in common: units of parameter sets and of messages, which sets
-//! a receiver has, and units that are written one behind another (H.266 7.4.2, Annex B).
+//! Makes units of parameter sets and messages, tracks the sets that a receiver has, and writes units (H.266 7.4.2, Annex B).
+//!
+//! Extraction and merging share this crate.
+//!
+//! - [`sps_unit`], [`pps_unit`], [`aps_unit`] and [`sei_unit`] make units. [`sets_in_force`] returns the SPS and PPS to rewrite.
+//! - [`Slots`] holds the last set that was sent of each type and id. [`send`] makes the unit of a set that the receiver doesn't have, and
+//!   [`forget_before`] forgets all sets before a picture where a receiver may begin.
+//! - [`write_all_of`], [`write_one`], [`write_some`] and [`write_end`] write units with their start codes.
+//! - [`WriteError`] is why a picture isn't written.
+//!
+//! Definitions in `specs`: `Units`, `Sets`, `Slots`, `Sending`, `Writing`, `Faults`.
 #![tactic(auto)]
 
 mod fault;
