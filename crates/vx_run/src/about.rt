@@ -1,4 +1,4 @@
-//! `--help`, `--version` and `--explain`: what the program tells of itself.
+//! The texts of `--help`, `--version` and `--explain`, and writing them.
 
 ghost use Rattle.std.specs.Prelude.{◌≡◌, Ok, IsSomeAnd};
 ghost use Rattle.vx_explain.specs.Explained.{explanation};
@@ -10,7 +10,7 @@ use crate::stop::Stop;
 use vx_explain::{explanation, rules_and_fields_are_explained};
 use vx_io::{Sink, write_all};
 
-/// The commands, the statuses, and the rules by their letters and numbers.
+/// Returns the text of `--help`: the commands, the statuses, and the rules by letter and number.
 #[tactic(auto, unfolding(crate::specs::About::help_text))]
 pub(crate) fn help() -> &'static [u8]
     ensures { result.now ≡ help_text }
@@ -92,7 +92,7 @@ The letters of the rules:
 "
 }
 
-/// The program's name and version.
+/// Returns the text of `--version`: the program's name and version.
 #[tactic(auto, unfolding(crate::specs::About::version_text))]
 pub(crate) fn version() -> &'static [u8]
     ensures { result.now ≡ version_text }
@@ -100,7 +100,7 @@ pub(crate) fn version() -> &'static [u8]
     b"goosequince 0.2.0\n"
 }
 
-/// Writes what there is to tell of a rule or of the number of a field.
+/// Writes the explanation of `word`, a rule or the number of a field.
 pub(crate) fn explain<K: Sink>(word: &str, out: &mut K) -> Result<(), Stop>
     requires { IsRuleOrField word.now }
     ensures writes { IsSomeAnd (explanation word.now) (λ text. Writes text (change K.bytes_taken K.write_faults out.old out.new) result) }
@@ -109,7 +109,7 @@ pub(crate) fn explain<K: Sink>(word: &str, out: &mut K) -> Result<(), Stop>
     write_text(explanation(word.as_bytes()).unwrap(), out)
 }
 
-/// Writes a text, and nothing else.
+/// Writes `text`, and nothing else.
 pub(crate) fn write_text<K: Sink>(text: &[u8], out: &mut K) -> Result<(), Stop>
     ensures writes { Writes text.now (change K.bytes_taken K.write_faults out.old out.new) result }
 {

@@ -1,4 +1,4 @@
-//! How a command that is not done ends: its status, and the line that tells why.
+//! The end of a command that isn't done: its status, and the line that says why.
 
 ghost use Rattle.std.specs.Prelude.{◌≡◌, ◌≤◌, [], IfOk, OnErr};
 ghost use Rattle.std.specs.Io.Buffered.{writer_buffer};
@@ -16,8 +16,9 @@ use vx_io::{Sink, SinkFailed, write_all};
 use vx_report::refusal_line;
 use vx_verify::mismatch_line;
 
-/// Tells on `err` why a command stopped, and answers its status. A failed
-/// write to `err` changes nothing else.
+/// Writes on `err` why a command stopped, and returns the status.
+///
+/// The status is that of `stop`, or 4 if there is no memory for its line. A failed write to `err` doesn't change the status.
 pub(crate) fn conclude<E: Sink>(alloc: Global, stop: Stop, err: &mut E) -> u8
     ensures { Concludes stop result (change E.bytes_taken E.write_faults err.old err.new) }
 {
@@ -42,8 +43,10 @@ pub(crate) fn conclude<E: Sink>(alloc: Global, stop: Stop, err: &mut E) -> u8
     }
 }
 
-/// Writes what was gathered and not yet written, at the end of a command of this status. Where that
-/// fails, and no fault or want of memory was told before, it is a write fault.
+/// Writes what `gathered` still holds, at the end of a command with this status, and returns the final status.
+///
+/// If that write fails and `status` is 0 or 1, it is a write fault: its line goes to `err`, and the status is 3. A status above 1 stays
+/// as it is.
 pub fn finish<W: Write + Drop, E: Sink>(
     alloc: Global,
     status: u8,
@@ -62,7 +65,7 @@ pub fn finish<W: Write + Drop, E: Sink>(
     }
 }
 
-/// Tells a line that was made, and answers the status that goes with it.
+/// Writes a line that was made, and returns `status`; or the line and status of lack of memory if making it failed.
 fn end<E: Sink>(err: &mut E, line: Result<Vec<u8>, AllocError>, status: u8) -> u8
     ensures made { IfOk line (λ made.
         (result ≡ status) × Tells (change E.bytes_taken E.write_faults err.old err.new) made.items) }
@@ -81,14 +84,14 @@ fn end<E: Sink>(err: &mut E, line: Result<Vec<u8>, AllocError>, status: u8) -> u
     }
 }
 
-/// Writes one line. Whether it was written changes nothing else.
+/// Writes one line. Whether the write succeeds has no other effect.
 fn tell<E: Sink>(err: &mut E, line: &[u8])
     ensures { Tells (change E.bytes_taken E.write_faults err.old err.new) line.now }
 {
     let _ = write_all(err, line);
 }
 
-/// `read fault source 0`
+/// Makes the line `read fault source 0`, with the number of the source.
 fn read_fault_line(alloc: Global, source: u16) -> Result<Vec<u8>, AllocError>
     ensures { IfOk result (λ line. line.items ≡ line_of (ReadFault source)) }
 {

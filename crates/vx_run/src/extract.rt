@@ -1,4 +1,4 @@
-//! `extract` and `check extract`: a subpicture of each picture of a byte stream, as a stream of its own.
+//! `extract` and `check extract`: one subpicture of each picture of a byte stream, as a stream of its own.
 
 ghost use Rattle.std.specs.Prelude.{◌≡◌, ◌+◌, ◌<◌, ◌≤◌, [], ◌∷◌, ◌^◌, List, ℕ, true, cond, Ok, None, IfOk, IfErr, OnOk};
 ghost use Rattle.vx_annexb.specs.ByteStream.{UnitPlace};
@@ -30,18 +30,18 @@ use vx_extract::{Extractor, extraction_reads_again};
 use vx_io::{Sink, Source, write_all};
 use vx_pic::{Picture, subpictures_have_slices};
 
-/// What is asked of an extraction.
+/// The request of an extraction: which subpicture, which pictures, and which level.
 #[derive(Clone, Copy, Debug, PartialEq, Eq)]
 pub struct Task {
-    /// The index of the subpicture.
+    /// The index of the subpicture, from 0.
     pub target: u32,
-    /// The level that is told; that of the source where there is none.
+    /// The level to write; `None` keeps that of the source.
     pub level: Option<u8>,
     /// The highest TemporalId of the pictures that are kept.
     pub tid: u8,
 }
 
-/// Writes the subpicture of each picture of a source that is kept, with the sets that it needs.
+/// Runs `extract`: writes the subpicture of each kept picture of `source`, with the parameter sets that it needs.
 pub(crate) fn extract<K: Sink>(
     alloc: Global,
     task: Task,
@@ -58,7 +58,7 @@ pub(crate) fn extract<K: Sink>(
     extract_fed(alloc, task, &mut feed, source, out)
 }
 
-/// Writes the subpicture of each picture of a source that is kept, of which nothing was read.
+/// Extracts through a feed that has read nothing.
 fn extract_fed<K: Sink>(
     alloc: Global,
     task: Task,
@@ -77,7 +77,7 @@ fn extract_fed<K: Sink>(
     extract_pictures(feed, &mut extractor, source, out)
 }
 
-/// [`extract_fed`], by an extractor that has seen none.
+/// Does the work of [`extract_fed`] with an extractor that has taken no picture.
 fn extract_pictures<K: Sink>(
     feed: &mut Feed,
     extractor: &mut Extractor,
@@ -98,7 +98,7 @@ fn extract_pictures<K: Sink>(
     some_picture(pictures)
 }
 
-/// What is written of pictures is read again.
+/// States the law that the written pictures are read again.
 fn extractions_read_again()
     ensures none { (R : Readers) → AreOfH266 R → (t : Task) → IsReadAgain R t [] [] }
     ensures taken { (R : Readers) → AreOfH266 R → (t : Task) → TakenIsReadAgain R t }
@@ -107,14 +107,16 @@ fn extractions_read_again()
     extraction_reads_again();
 }
 
-/// Each picture of units has a slice of each of its subpictures.
+/// If units are read by readers of H.266, then each picture of theirs has a slice of each of its subpictures.
 pub fn pictures_have_slices()
     ensures { (R : Readers) → AreOfH266 R → HaveSlices R }
 {
     subpictures_have_slices();
 }
 
-/// Comes to the next picture of a source, behind so many others, if there is one, and writes its subpicture or leaves it out.
+/// Advances to the next picture of the source, and writes its subpicture or leaves it out. Returns `false` at the end.
+///
+/// `pictures` is the number of pictures before it.
 fn extract_next<K: Sink>(
     feed: &mut Feed,
     extractor: &mut Extractor,
@@ -137,7 +139,7 @@ fn extract_next<K: Sink>(
     Ok(true)
 }
 
-/// Says how many pictures of a source are kept, where the subpicture can be extracted.
+/// Runs `check extract`: writes how many pictures of `source` are kept, if the subpicture can be extracted.
 pub(crate) fn check_extract<K: Sink>(
     alloc: Global,
     task: Task,
@@ -155,7 +157,7 @@ pub(crate) fn check_extract<K: Sink>(
     Ok(())
 }
 
-/// How many pictures of a source are kept, where the subpicture can be extracted.
+/// Counts the pictures that are kept, if the subpicture can be extracted.
 fn count_kept(alloc: Global, task: Task, source: &mut Box<dyn Source>) -> Result<u64, Stop>
     requires { task.tid ≤ 6 }
     ensures counts { (R : Readers) → AreOfH266 R → CountsBy R task (change bytes_left read_faults source.old source.new) result }
@@ -165,7 +167,7 @@ fn count_kept(alloc: Global, task: Task, source: &mut Box<dyn Source>) -> Result
     count_fed(alloc, task, &mut feed, source)
 }
 
-/// How many pictures of a source are kept, of which nothing was read, where the subpicture can be extracted.
+/// Counts through a feed that has read nothing.
 fn count_fed(
     alloc: Global,
     task: Task,
@@ -181,7 +183,7 @@ fn count_fed(
     count_pictures(task, feed, &mut extractor, source)
 }
 
-/// [`count_fed`], by an extractor that has seen none.
+/// Does the work of [`count_fed`] with an extractor that has taken no picture.
 fn count_pictures(
     task: Task,
     feed: &mut Feed,
@@ -204,7 +206,9 @@ fn count_pictures(
     Ok(kept)
 }
 
-/// Comes to the next picture of a source, behind so many others, if there is one, and tells whether it is kept.
+/// Advances to the next picture of the source, checks it, and returns whether it is kept. Returns `None` at the end.
+///
+/// `pictures` is the number of pictures before it.
 fn check_next(
     tid: u8,
     feed: &mut Feed,
@@ -226,7 +230,7 @@ fn check_next(
     Ok(Some(kept))
 }
 
-/// Whether the picture that was done last, behind so many others, is kept, where the subpicture can be extracted.
+/// Checks that the subpicture of the latest picture can be extracted, and returns whether the picture is kept.
 fn check_latest(
     tid: u8,
     feed: &Feed,
@@ -245,7 +249,7 @@ fn check_latest(
     Ok(picture.kind().temporal_id <= tid)
 }
 
-/// Writes the subpicture of the picture that was done last, behind so many others, or leaves it out.
+/// Writes the subpicture of the latest picture, or leaves it out. `pictures` is the number of pictures before it.
 fn extract_picture<K: Sink>(
     feed: &Feed,
     extractor: &mut Extractor,
@@ -266,7 +270,7 @@ fn extract_picture<K: Sink>(
     }
 }
 
-/// Whether the subpicture of a picture behind so many others can be extracted.
+/// Checks that the subpicture of `picture` can be extracted. `pictures` is the number of pictures before it.
 fn check_picture(
     picture: &Picture<'_>,
     extractor: &mut Extractor,
@@ -282,7 +286,7 @@ fn check_picture(
     }
 }
 
-/// A count with one more, where it is counted, which is then below `most`.
+/// Adds 1 to `count` if `counted`. `count` is to be below `most`.
 fn with_one(counted: bool, count: u64, most: u64) -> u64
     ensures { count < most → result ≡ cond counted (count + 1) count }
 {
@@ -293,7 +297,7 @@ fn with_one(counted: bool, count: u64, most: u64) -> u64
     }
 }
 
-/// There has to be a picture.
+/// Checks that there was a picture: a stream without pictures is refused (E1).
 pub fn some_picture(pictures: u64) -> Result<(), Stop>
     ensures some { OnOk result (0 < pictures) }
     ensures none { IfErr result (λ stop. (pictures ≡ 0) × (stop ≡ stops.Refused (Extract NO_PICTURE) (places.Picture 0))) }
@@ -307,7 +311,7 @@ pub fn some_picture(pictures: u64) -> Result<(), Stop>
     })
 }
 
-/// `ok pictures 2`
+/// Makes the line `ok pictures 2`, with this number.
 pub(crate) fn ok_line(alloc: Global, kept: u64) -> Result<Vec<u8>, AllocError>
     ensures { IfOk result (λ line. line.items ≡ ok_text kept) }
 {

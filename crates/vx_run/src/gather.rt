@@ -1,4 +1,4 @@
-//! What the program writes on: a sink that gathers small pieces for one write.
+//! The program's output: a sink that gathers small pieces for one write.
 
 ghost use Rattle.std.specs.Prelude.{◌≡◌, ◌<◌, [], length, IfOk, OnOk};
 ghost use Rattle.std.specs.Io.{WritesAtMost};
@@ -9,9 +9,10 @@ ghost use Rattle.vx_io.specs.Faults.{CountsFault, CountsOne};
 use std::io::{BufWriter, Write};
 use vx_io::{Sink, SinkFailed};
 
-/// A sink over a writer that gathers. What it gathered last is written when it is asked for.
+/// A sink over a buffered writer. It counts the writes that failed.
 ///
-/// It tells its bytes where the writer behind it does, and counts the writes that fail.
+/// What the buffer holds at the end is written only on [`write_rest`](GatherSink::write_rest). Contracts know its bytes if they know
+/// those of the writer.
 #[derive(Drop)]
 pub struct GatherSink<W: Write + Drop> {
     to: BufWriter<W>,
@@ -21,7 +22,7 @@ pub struct GatherSink<W: Write + Drop> {
 impl<W: Write + Drop> GatherSink<W> {
     ghost use Rattle.vx_run.specs.Gathered.{gatherer_of, gathered_bytes, gather_faults};
 
-    /// A sink over this writer, of which no write has failed.
+    /// Makes a sink over `to`, with no failed write.
     pub fn new(to: BufWriter<W>) -> GatherSink<W>
         ensures writer { gatherer_of result ≡ to }
         ensures faults { gather_faults result ≡ 0 }
@@ -29,9 +30,10 @@ impl<W: Write + Drop> GatherSink<W> {
         GatherSink { to, faults: 0 }
     }
 
-    /// Writes what was gathered and not yet written. An error of the writer is a failed write, and
-    /// adds one to the count. That no other last write fails is tested, and no contract: those of
-    /// std's writers don't tell when one fails.
+    /// Writes what is gathered and not yet written.
+    ///
+    /// *Errors:* [`SinkFailed`] if the writer returns an error, which adds one to the count of failed writes. That there is no error
+    /// otherwise is only tested: the contracts of std's writers don't say when a write fails.
     pub fn write_rest(&mut self) -> Result<(), SinkFailed>
         ensures rest { OnOk result (writer_buffer (gatherer_of self.new) ≡ []) }
         ensures bytes { Keeps (gathered_bytes W.contents self.old) (gathered_bytes W.contents self.new) }
@@ -55,8 +57,10 @@ impl<W: Write + Drop> Sink for GatherSink<W> {
 
     ghost write_faults = { λ s. s.faults };
 
-    /// Asks the writer once; its error, or an answer that it took none of the bytes, is a failed
-    /// write, and adds one to the count.
+    /// Calls the writer once.
+    ///
+    /// *Errors:* [`SinkFailed`] if the writer returns an error, or takes no byte of a piece that has some. Either adds one to the count
+    /// of failed writes.
     fn write(&mut self, piece: &[u8]) -> Result<usize, SinkFailed>
         ensures bound { WritesAtMost result piece.now }
         ensures bytes { WriteAppends (gathered_bytes W.contents self.old) (gathered_bytes W.contents self.new) result piece.now }

@@ -1,4 +1,4 @@
-//! `merge` and `check merge`: the pictures of several byte streams as those of one stream, round by round.
+//! `merge` and `check merge`: the pictures of several byte streams become those of one stream, round by round.
 
 ghost use Rattle.std.specs.Prelude.{[], ◌≡◌, ◌<◌, ◌≤◌, ◌^◌, List, All, map, length, vec_len, IfOk, IfErr, OnOk};
 ghost use Rattle.vx_pic.specs.Readings.{Picture as StreamPicture};
@@ -29,17 +29,18 @@ use vx_bits::rules::LENGTH;
 use vx_io::{Sink, Source, write_all};
 use vx_merge::{Corner, Lengths, Merger, WriteError, lengths};
 
-/// What is done with each round.
+/// What happens to each round.
 #[derive(Clone, Copy, PartialEq, Eq)]
 enum Work {
-    /// It is checked.
+    /// The round is checked.
     Check,
-    /// It is written.
+    /// The round is written.
     Write,
 }
 
-/// Writes the pictures of the files that these words place as those of one stream, each with its region of the picture that they make up;
-/// with a level of its own or the files' highest.
+/// Runs `merge`: writes the pictures of the placed files as those of one stream, each file in its region.
+///
+/// `level` is the level to write; `None` means the highest of the files'. More files than 64 are refused before anything is read.
 pub(crate) fn merge<K: Sink>(
     alloc: Global,
     level: Option<u8>,
@@ -59,7 +60,7 @@ pub(crate) fn merge<K: Sink>(
     write_rounds(alloc, level, placings, sources, out)
 }
 
-/// Writes all rounds.
+/// Writes all rounds of at most 64 files.
 fn write_rounds<K: Sink>(
     alloc: Global,
     level: Option<u8>,
@@ -81,7 +82,7 @@ fn write_rounds<K: Sink>(
     Ok(())
 }
 
-/// What is written of rounds is read again.
+/// States the law that the written rounds are read again.
 fn merges_read_again()
     ensures { WrittenIsReadAgain }
 {
@@ -90,7 +91,7 @@ fn merges_read_again()
     merge_is_read_again();
 }
 
-/// Says how many rounds of pictures the files have that these words place, where they can be written as one stream.
+/// Runs `check merge`: writes how many rounds the placed files have, if they can be merged.
 pub(crate) fn check_merge<K: Sink>(
     alloc: Global,
     placings: Placings<'_>,
@@ -109,7 +110,7 @@ pub(crate) fn check_merge<K: Sink>(
     check_rounds(alloc, placings, sources, out)
 }
 
-/// Says how many rounds there are.
+/// Checks and counts all rounds of at most 64 files.
 fn check_rounds<K: Sink>(
     alloc: Global,
     placings: Placings<'_>,
@@ -131,7 +132,7 @@ fn check_rounds<K: Sink>(
     Ok(())
 }
 
-/// Takes round after round of pictures of the sources, and says how many there are.
+/// Checks or writes round after round, and returns how many there are.
 fn take_rounds<K: Sink>(
     alloc: Global,
     work: Work,
@@ -152,7 +153,7 @@ fn take_rounds<K: Sink>(
     take_by(alloc, work, &mut merger, sources, out)
 }
 
-/// Takes them by a merger that has taken none.
+/// Does the work of [`take_rounds`] with a merger that has taken no round.
 fn take_by<K: Sink>(
     alloc: Global,
     work: Work,
@@ -179,7 +180,9 @@ fn take_by<K: Sink>(
     Ok(rounds)
 }
 
-/// Comes to the next picture of each source, in order, behind so many rounds, if they go on.
+/// Advances each source to its next picture, in order. Returns `false` if all have ended.
+///
+/// `rounds` is the number of rounds before.
 fn advance_all(
     feeds: &mut Vec<Feed>,
     sources: &mut Vec<Box<dyn Source>>,
@@ -203,7 +206,9 @@ fn advance_all(
     all_go_on(ended, rounds)
 }
 
-/// Whether all sources go on behind so many rounds, or all have ended.
+/// Returns `true` if all sources go on after `rounds` rounds, and `false` if all have ended.
+///
+/// `ended` says which sources have ended. *Errors:* the lowest source that has ended, if another one goes on (M14).
 pub fn all_go_on(ended: &[bool], rounds: u64) -> Result<bool, Stop>
     requires { (0 < length ended.now) × (length ended.now ≤ most_sources) }
     ensures goes { GoesBy length_refused ended.now rounds result }
@@ -223,7 +228,7 @@ pub fn all_go_on(ended: &[bool], rounds: u64) -> Result<bool, Stop>
     }
 }
 
-/// Checks or writes the round of the pictures that the feeds lend, behind so many rounds.
+/// Checks or writes the round of the pictures that the feeds lend. `rounds` is the number of rounds before.
 fn take_round<K: Sink>(
     work: Work,
     merger: &mut Merger,

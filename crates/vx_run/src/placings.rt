@@ -1,4 +1,4 @@
-//! Words `X,Y=FILE`, by which files are placed.
+//! Arguments `X,Y=FILE`, which place files.
 
 ghost use Rattle.std.specs.Prelude.{◌<◌, ◌↔◌, All, IsTrue, MatchOption, length};
 ghost use Rattle.std.specs.List.{AllByRecursion};
@@ -9,7 +9,7 @@ use crate::words::number;
 use std::alloc::{AllocError, Global};
 use vx_merge::Corner;
 
-/// A file of a merge, and the upper left corner of its region, in luma samples.
+/// A file of a merge, and the upper left corner of its region in luma samples.
 #[derive(Clone, Copy)]
 pub(crate) struct Placing<'a> {
     pub x: u32,
@@ -22,7 +22,7 @@ impl Placing<'_> {
     ghost use Rattle.vx_run.specs.Merge.{corner_of};
     ghost use Rattle.vx_run.specs.inner.Placings.{placed};
 
-    /// Its corner.
+    /// Returns the corner of the region.
     pub(crate) fn corner(&self) -> Corner
         ensures { result ≡ corner_of (placed self.now) }
     {
@@ -33,10 +33,10 @@ impl Placing<'_> {
     }
 }
 
-/// The greatest place of a corner that words may name.
+/// The highest coordinate of a corner that arguments may name.
 const MOST_CORNER: u32 = 16_383;
 
-/// Words of which each is `X,Y=FILE`: there are some, and they were parsed.
+/// Arguments that were parsed: there is at least one, and each is `X,Y=FILE`.
 #[derive(Clone, Copy)]
 pub(crate) struct Placings<'a> {
     words: &'a [String],
@@ -50,7 +50,7 @@ impl<'a> Placings<'a> {
     ghost use Rattle.vx_run.specs.Merge.{corners_of as corners_by};
     ghost use Rattle.vx_run.specs.inner.Placings.{PlaceFiles, placed, spelled};
 
-    /// These words, where there are some, and each is `X,Y=FILE`.
+    /// Takes these arguments if there are some and each is `X,Y=FILE`.
     pub(crate) fn of(words: &'a [String]) -> Option<Placings<'a>>
         ensures { MatchOption result (PlaceFiles (texts words.now) → ⊥) (λ p. p.words.now ≡ words.now) }
     {
@@ -60,14 +60,14 @@ impl<'a> Placings<'a> {
         Some(Placings { words })
     }
 
-    /// How many there are.
+    /// Returns how many there are.
     pub(crate) fn len(&self) -> usize
         ensures { result ≡ length self.now.words.now }
     {
         self.words.len()
     }
 
-    /// The `k`-th, from 0.
+    /// Returns number `k`, from 0.
     pub(crate) fn at(&self, k: usize) -> Placing<'a>
         requires { k < length self.now.words.now }
         ensures { slice_get (spelled self.now.words.now) k ≡ Some (placed result) }
@@ -75,7 +75,7 @@ impl<'a> Placings<'a> {
         placing_of(self.words[k].as_str()).unwrap()
     }
 
-    /// The file of the `k`-th.
+    /// Returns the file of number `k`, if there is one.
     pub(crate) fn file(&self, k: usize) -> Option<&'a str>
         ensures { option_copied result ≡ slice_get (map (λ p. p.file) (spelled self.now.words.now)) k }
     {
@@ -85,7 +85,7 @@ impl<'a> Placings<'a> {
         Some(self.at(k).file)
     }
 
-    /// The corners of the regions in which they place files.
+    /// Returns the corner of each file's region, in order.
     pub(crate) fn corners(&self, alloc: Global) -> Result<Vec<Corner>, AllocError>
         ensures { IfOk result (λ corners. corners.items ≡ corners_by (spelled self.now.words.now)) }
     {
@@ -97,7 +97,7 @@ impl<'a> Placings<'a> {
     }
 }
 
-/// Whether there are words, and each is `X,Y=FILE`.
+/// Returns whether there are arguments and each is `X,Y=FILE`.
 fn place_files(words: &[String]) -> bool
     ensures { IsTrue result ↔ PlaceFiles (texts words.now) }
 {
@@ -107,7 +107,7 @@ fn place_files(words: &[String]) -> bool
     are_placings(words)
 }
 
-/// Whether each word is `X,Y=FILE`.
+/// Returns whether each argument is `X,Y=FILE`.
 fn are_placings(words: &[String]) -> bool
     ensures { IsTrue result ↔ AllByRecursion IsPlacingWord (texts words.now) }
 {
@@ -119,7 +119,7 @@ fn are_placings(words: &[String]) -> bool
     true
 }
 
-/// `X,Y=FILE`
+/// Parses an argument `X,Y=FILE`.
 fn placing_of(word: &str) -> Option<Placing<'_>>
     ensures { MatchOption result (IsPlacingWord word.now → ⊥) (λ p. Spells word.now (placed p)) }
 {

@@ -1,4 +1,4 @@
-//! `play`: the files of each region one behind another, and the regions put together, round by round.
+//! `play`: the files of each region are played one after another, and the regions are merged round by round.
 
 ghost use Rattle.std.specs.Prelude.{◌≡◌, ◌≢◌, ◌<◌, ◌≤◌, [], ℕ, List, All, map, length, replicate, vec_len, slice_get, slice_index, Option as OptionOf, None, Err, IfSome, IfOk, IfErr, OnOk, MatchOption};
 ghost use Rattle.vx_pic.specs.Readings.{Picture as StreamPicture};
@@ -38,18 +38,20 @@ use vx_play::Schedule;
 /// How many files there may be.
 const MOST_FILES: usize = 256;
 
-/// More rounds than so many files can have.
+/// More rounds than this many files can have.
 const MOST_ROUNDS: u64 = 1 << 49;
 
-/// Regions with their corners, and the region of each file.
+/// The corner of each region, and the region of each file.
 #[derive(Drop)]
 struct Regions {
     corners: Vec<Corner>,
     files: Vec<u32>,
 }
 
-/// Writes the pictures of the files of each region, one file behind another, as those of one stream; with a level of its own or the files'
-/// highest.
+/// Runs `play`: writes the pictures of each region's files, one file after another, as those of one stream.
+///
+/// `level` is the level to write; `None` means the highest of the files'. More regions than 64 and more files than 256 are refused before
+/// anything is read.
 pub(crate) fn play<K: Sink>(
     alloc: Global,
     level: Option<u8>,
@@ -73,7 +75,7 @@ pub(crate) fn play<K: Sink>(
     play_rounds(alloc, level, &regions.files, &regions.corners, sources, out)
 }
 
-/// What is written of rounds is read again.
+/// States the law that the written rounds are read again.
 fn plays_read_again()
     ensures { PlayedIsReadAgain }
 {
@@ -83,7 +85,7 @@ fn plays_read_again()
     merge_is_read_again();
 }
 
-/// More files are named than there may be.
+/// Returns the refusal of more files than there may be (L11).
 fn too_many_files() -> Stop
     ensures { Err result ≡ too_many_of_files }
 {
@@ -95,7 +97,7 @@ fn too_many_files() -> Stop
     }
 }
 
-/// The regions in which these words place files: those with the same corner are one. None where there are too many.
+/// Returns the regions in which the arguments place files: equal corners are one region. `None` if there are more than 64.
 fn regions_of(alloc: Global, placings: Placings<'_>) -> Result<Option<Regions>, AllocError>
     ensures { IfOk result (λ found. MatchOption found (most_sources < length (with_corners [] (corners_by (spelled placings.entry.words.now))))
         (λ r. HasFound (corners_by (spelled placings.entry.words.now)) r.corners.items r.files.items × (vec_len r.corners ≤ most_sources))) }
@@ -113,7 +115,7 @@ fn regions_of(alloc: Global, placings: Placings<'_>) -> Result<Option<Regions>, 
     Ok(Some(Regions { corners, files }))
 }
 
-/// The region with this corner: a new one where none of these has it.
+/// Returns the region with this corner, a new one if there is none.
 fn placed(corners: &mut Vec<Corner>, corner: Corner) -> Result<usize, AllocError>
     ensures region { IfOk result (λ r. r ≡ region_at_corner corners.old.items corner) }
     ensures within { IfOk result (λ r. r ≤ vec_len corners.old) }
@@ -127,7 +129,7 @@ fn placed(corners: &mut Vec<Corner>, corner: Corner) -> Result<usize, AllocError
     Ok(region)
 }
 
-/// The place of a corner among these, or how many there are.
+/// Returns the index of `corner` in `corners`, or their number if it isn't there.
 fn region_of(corners: &[Corner], corner: Corner) -> usize
     ensures place { result ≡ region_at_corner corners.now corner }
     ensures within { result ≤ length corners.now }
@@ -140,7 +142,7 @@ fn region_of(corners: &[Corner], corner: Corner) -> usize
     corners.len()
 }
 
-/// Writes all rounds of the files of regions.
+/// Writes all rounds of the regions' files.
 fn play_rounds<K: Sink>(
     alloc: Global,
     level: Option<u8>,
@@ -171,7 +173,7 @@ fn play_rounds<K: Sink>(
     )
 }
 
-/// Writes all rounds of so many regions: by a schedule whose files were not begun, and a merger that has written none.
+/// Does the work of [`play_rounds`] with a schedule whose files weren't begun, and a merger that has written nothing.
 fn play_by<K: Sink>(
     alloc: Global,
     count: usize,
@@ -203,7 +205,9 @@ fn play_by<K: Sink>(
     Ok(())
 }
 
-/// Comes to the next picture of each region, in order, behind so many rounds, if they go on.
+/// Advances each region to its next picture, in order. Returns `false` if all have ended.
+///
+/// `rounds` is the number of rounds before.
 fn advance_regions(
     alloc: Global,
     schedule: &mut Schedule,
@@ -231,7 +235,7 @@ fn advance_regions(
     all_go_on(ended, rounds)
 }
 
-/// Comes to the next picture of each region, in order, and marks those that have ended.
+/// Advances each region to its next picture, in order, and marks those that have ended.
 fn advance_each(
     alloc: Global,
     schedule: &mut Schedule,
@@ -260,7 +264,7 @@ fn advance_each(
     Ok(())
 }
 
-/// Comes to the next picture of region `k`: in the file that it is at, or in the first one behind that which has a picture.
+/// Advances region `k` to its next picture: in its current file, or in the first later file that has one. Returns `false` at its end.
 fn advance_region(
     alloc: Global,
     k: u32,
@@ -291,7 +295,7 @@ fn advance_region(
     Ok(false)
 }
 
-/// Makes a feed one that has read nothing, for the next file.
+/// Replaces a feed by one that has read nothing, for the next file.
 fn renew(alloc: Global, feed: &mut Feed) -> Result<(), AllocError>
     ensures { OnOk result (IsUnfed feed.new) }
 {
@@ -300,7 +304,9 @@ fn renew(alloc: Global, feed: &mut Feed) -> Result<(), AllocError>
     Ok(())
 }
 
-/// Writes the round of the pictures that the feeds lend, behind so many rounds, to which it may be joined.
+/// Writes the round of the pictures that the feeds lend; `joins` says whether it comes after an end of sequence.
+///
+/// `rounds` is the number of rounds before.
 fn play_round<K: Sink>(
     joins: bool,
     merger: &mut Merger,
@@ -342,8 +348,9 @@ fn write_round<K: Sink>(
     merger.round(feeds, out)
 }
 
-/// The region of the `k`-th file that the words of `play` place, from 0: files with the same corner are one region's, and regions are
-/// numbered as they come first. None where the words are other ones, or place no such file.
+/// Returns the region of file `k` of a `play` command, from 0; `None` if the arguments are others or place no such file.
+///
+/// Files with equal corners are in one region. Regions are numbered in the order in which they first appear.
 pub fn play_region(words: &[String], k: usize) -> Option<usize>
     ensures region { (level : OptionOf ℕ) (placings : List PlacingAsked) → AskFor (texts words.now) (for_play level placings)
         → result ≡ slice_get (file_regions placings) k }
@@ -356,7 +363,7 @@ pub fn play_region(words: &[String], k: usize) -> Option<usize>
     }
 }
 
-/// The region of the `k`-th of these words: as many as there are corners before the first word with its own.
+/// Returns the region of file `k`: the number of distinct corners before the first file with its corner.
 fn file_region(placings: Placings<'_>, k: usize) -> Option<usize>
     ensures { result ≡ slice_get (file_regions (spelled placings.entry.words.now)) k }
 {
@@ -372,7 +379,7 @@ fn file_region(placings: Placings<'_>, k: usize) -> Option<usize>
     Some(region)
 }
 
-/// The first of these words with the corner of the `k`-th.
+/// Returns the first file with the corner of file `k`.
 fn first_like(placings: Placings<'_>, k: usize) -> usize
     requires within { k < length placings.words.now }
     ensures first { let corners = corners_by (spelled placings.entry.words.now) in

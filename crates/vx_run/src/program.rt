@@ -1,4 +1,4 @@
-//! The program over words, sources and sinks.
+//! The program: one command over sources and sinks.
 
 ghost use Rattle.std.specs.Prelude.{◌≡◌, ◌≤◌, vec_len};
 ghost use Rattle.vx_run.specs.Change.{change, sources_change};
@@ -19,11 +19,11 @@ use crate::words::{Command, command_of};
 use std::alloc::Global;
 use vx_io::{Sink, Source};
 
-/// Does what the words ask for, over one source for each file that they name.
-/// Writes to `out` what the command makes, and to `err` one line where it is
-/// not done. Answers the program's status: 0 done, 1 refused, 2 words not
-/// understood, 3 a read or a write failed, 4 no memory. What that comes to, command by
-/// command, are laws: [`status_is_exact`](crate::status_is_exact) and those beside it.
+/// Runs the command that the arguments ask for, over one source for each file that they name, and returns the exit status.
+///
+/// Writes to `out` what the command makes, and to `err` one line if it isn't done. The status is 0 for done, 1 for a broken rule, 2 for
+/// arguments that are not understood, 3 for a failed read or write, 4 for lack of memory. `words` are the arguments without the program's
+/// name. [`status_is_exact`](crate::status_is_exact) and the laws beside it say, command by command, which status comes when.
 pub fn run<K: Sink, E: Sink>(
     alloc: Global,
     words: &[String],
@@ -42,7 +42,7 @@ pub fn run<K: Sink, E: Sink>(
     }
 }
 
-/// Does what the words ask for.
+/// Runs the command that the arguments ask for.
 fn perform<K: Sink>(
     alloc: Global,
     words: &[String],
@@ -86,10 +86,10 @@ fn perform<K: Sink>(
     }
 }
 
-/// The highest TemporalId of all.
+/// The highest TemporalId.
 const ALL: u8 = 6;
 
-/// What is asked of an extraction.
+/// Returns the task of an extraction with these options.
 fn task_of(tid: Option<u8>, level: Option<u8>, index: u32) -> Task
     ensures task { result ≡ task_by tid level index }
     ensures tid { IsTid tid → result.tid ≤ 6 }

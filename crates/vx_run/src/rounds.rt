@@ -1,4 +1,4 @@
-//! What commands over several byte streams have in common: a feed for each source, and the next picture of each.
+//! What commands over several byte streams share: a feed for each source, and the next picture of each.
 
 ghost use Rattle.std.specs.Prelude.{◌≡◌, ◌+◌, ◌<◌, ◌≤◌, ◌^◌, List, ℕ, true, vec_len, Ok, Err, IfOk, IfErr, OnOk};
 ghost use Rattle.vx_annexb.specs.ByteStream.{UnitPlace};
@@ -24,7 +24,7 @@ use vx_io::Source;
 /// How many sources there may be.
 pub(crate) const MOST_SOURCES: usize = 64;
 
-/// More sources are named than there may be.
+/// Returns the refusal of more sources than there may be (L4).
 pub(crate) fn too_many() -> Stop
     ensures { Err result ≡ too_many_sources }
 {
@@ -36,7 +36,7 @@ pub(crate) fn too_many() -> Stop
     }
 }
 
-/// A feed for each of so many sources.
+/// Makes `count` feeds that have read nothing.
 pub(crate) fn feeds_for(alloc: Global, count: usize) -> Result<Vec<Feed>, AllocError>
     ensures count { IfOk result (λ feeds. vec_len feeds ≡ count) }
     ensures unfed { IfOk result (λ feeds. OfAll (λ k f. IsUnfed f) feeds.items) }
@@ -49,7 +49,7 @@ pub(crate) fn feeds_for(alloc: Global, count: usize) -> Result<Vec<Feed>, AllocE
     Ok(feeds)
 }
 
-/// That none of so many sources has ended.
+/// Makes the marks of `count` sources, of which none has ended.
 pub(crate) fn going(alloc: Global, count: usize) -> Result<Vec<bool>, AllocError>
     ensures { IfOk result (λ ended. vec_len ended ≡ count) }
 {
@@ -60,7 +60,9 @@ pub(crate) fn going(alloc: Global, count: usize) -> Result<Vec<bool>, AllocError
     Ok(ended)
 }
 
-/// Comes to the next picture of each source, in order, behind so many rounds, and marks those that have ended.
+/// Advances each source to its next picture, in order, and marks those that have ended.
+///
+/// `rounds` is the number of rounds before.
 pub(crate) fn advance_each(
     feeds: &mut Vec<Feed>,
     sources: &mut Vec<Box<dyn Source>>,
@@ -86,7 +88,7 @@ pub(crate) fn advance_each(
     Ok(())
 }
 
-/// Comes to the next picture of source `k`, if there is one.
+/// Advances source `k` to its next picture. Returns `false` at its end.
 pub(crate) fn advance(feed: &mut Feed, source: &mut Box<dyn Source>, k: u16) -> Result<bool, Stop>
     ensures answer { (R : Readers) → AreOfH266 R → (g : List ℕ) (units : List UnitPlace) (readings : List Reading)
         → HasFed R feed.old g units readings → LastWasNeeded g units
@@ -106,7 +108,7 @@ pub(crate) fn advance(feed: &mut Feed, source: &mut Box<dyn Source>, k: u16) -> 
     }
 }
 
-/// What a feed lends is the picture that was taken last.
+/// States that a feed lends the latest picture.
 fn lends_latest(feed: &Feed)
     requires { HasPicture feed.now.assembler }
     ensures { LendsLatest feed.now }
@@ -114,7 +116,7 @@ fn lends_latest(feed: &Feed)
     let _picture = feed.picture();
 }
 
-/// Advances on the source.
+/// Advances a feed on its source.
 fn step(feed: &mut Feed, source: &mut Box<dyn Source>) -> Result<Step, FeedFault>
     ensures answer { (R : Readers) → AreOfH266 R → (g : List ℕ) (units : List UnitPlace) (readings : List Reading)
         → HasFed R feed.old g units readings → LastWasNeeded g units
@@ -126,7 +128,7 @@ fn step(feed: &mut Feed, source: &mut Box<dyn Source>) -> Result<Step, FeedFault
     feed.advance(&mut **source)
 }
 
-/// One more than a count that is below `most`.
+/// Returns `count` plus 1. `count` is to be below `most`.
 pub(crate) fn one_more(count: u64, most: u64) -> u64
     ensures { count < most → result ≡ count + 1 }
 {

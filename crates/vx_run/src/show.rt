@@ -1,4 +1,4 @@
-//! `show [--fields] FILE`: lines for the NAL units, the sets and the pictures of a byte stream, and for the fields of sets and headers.
+//! `show [--fields] FILE`: lines for the NAL units, sets and pictures of a byte stream, and for the fields of sets and headers.
 
 ghost use Rattle.std.specs.Prelude.{◌≡◌, ◌+◌, ◌<◌, ◌++◌, ◌∷◌, [], List, ℕ, length, Some, None, Ok, Err, IfOk, IfErr, MatchOption, OnOk, OnErr, OnSome};
 ghost use Rattle.vx_annexb.specs.ByteStream.{UnitPlace};
@@ -30,10 +30,10 @@ use vx_io::{Sink, Source, write_all};
 use vx_pic::StructureFields;
 use vx_report::{PictureNumbers, SetNumbers, fields_line, picture_line, set_line, unit_line};
 
-/// Writes lines for each NAL unit of a source, in order: of the unit, of the set that
-/// it is, and of the picture that it completes; and of the fields that it spells, where
-/// these are asked for. The lines of all units whose end is seen are written before the
-/// source is read on.
+/// Runs `show`: writes lines for each NAL unit of `source`, in order.
+///
+/// There is a line for the unit, for the set that it is or the picture that it completes, and with `fields` for the fields that it
+/// spells. The lines of all complete units are written before the next read.
 pub(crate) fn show<K: Sink>(
     alloc: Global,
     fields: bool,
@@ -48,7 +48,7 @@ pub(crate) fn show<K: Sink>(
     show_fed(alloc, fields, &mut feed, source, out)
 }
 
-/// Writes the lines of a source of which nothing was read.
+/// Writes the lines through a feed that has read nothing.
 fn show_fed<K: Sink>(
     alloc: Global,
     fields: bool,
@@ -72,7 +72,7 @@ fn show_fed<K: Sink>(
     Ok(())
 }
 
-/// Reads the first source on.
+/// Reads the source once.
 fn read_on(feed: &mut Feed, source: &mut Box<dyn Source>) -> Result<(), Stop>
     requires open { IsOpen feed.old }
     requires sought { IsSought feed.old.reader.splitter }
@@ -89,8 +89,9 @@ fn read_on(feed: &mut Feed, source: &mut Box<dyn Source>) -> Result<(), Stop>
     }
 }
 
-/// Shows the units whose end is seen in what was read, with one write, behind the
-/// first `pictures` pictures. Answers how many pictures are shown in all.
+/// Writes the lines of the complete units among the bytes read so far, with one write.
+///
+/// `pictures` is the number of pictures before. Returns the number with those shown.
 fn show_seen<K: Sink>(
     alloc: Global,
     feed: &mut Feed,
@@ -114,8 +115,9 @@ fn show_seen<K: Sink>(
     ending
 }
 
-/// Puts the lines of the units whose end is seen in what was read behind others.
-/// Answers how many pictures there are in all, behind the first `pictures`.
+/// Appends the lines of the complete units among the bytes read so far to `lines`.
+///
+/// `pictures` is the number of pictures before. Returns the number with those of these units.
 fn gather(
     alloc: Global,
     feed: &mut Feed,
@@ -146,8 +148,10 @@ fn gather(
     Ok(count)
 }
 
-/// Puts the lines of the next unit behind others, with those of the fields that are seen of
-/// it. Answers how many pictures there are then, behind the first `pictures`, if there is a unit.
+/// Appends the lines of the next unit, and those of the fields seen in it, to `lines`.
+///
+/// `pictures` is the number of pictures before. Returns the number with the one that the unit completes; `None` if there is no complete
+/// unit.
 fn gather_next(
     alloc: Global,
     feed: &mut Feed,
@@ -197,7 +201,7 @@ fn gather_next(
     }
 }
 
-/// Takes the next unit. Where fields are asked for, those are seen that it spells, up to the first that is refused; else none.
+/// Takes the next unit. With `fields`, `seen` receives the fields that it spells, up to the first that is refused.
 fn take_next(
     feed: &mut Feed,
     fields: bool,
@@ -223,7 +227,7 @@ fn take_next(
     feed.next()
 }
 
-/// Puts the line of what a refused unit spells before the refusal behind others.
+/// Appends the line of the fields that a refused unit spells before the refusal.
 fn tell_refused(
     alloc: Global,
     unit: u64,
@@ -240,7 +244,7 @@ fn tell_refused(
     Ok(())
 }
 
-/// The field at which a rule is broken, where it is one of syntax.
+/// Returns the field at which a rule of syntax is broken, and `None` for other rules.
 fn field_of(refusal: Refusal) -> Option<u16>
     ensures { result ≡ refused_field refusal }
 {
@@ -250,7 +254,7 @@ fn field_of(refusal: Refusal) -> Option<u16>
     }
 }
 
-/// The lines of the unit that was taken last, behind the first `pictures` pictures.
+/// Makes the lines of the unit taken last. `pictures` is the number of pictures before.
 fn lines_of(
     alloc: Global,
     feed: &Feed,
@@ -271,7 +275,7 @@ fn lines_of(
     Ok(lines)
 }
 
-/// The line of the set that was taken last, or of the picture that was done; else none.
+/// Makes the line of the set taken last, or of the completed picture; otherwise an empty one.
 fn told_line(
     alloc: Global,
     feed: &Feed,
@@ -292,7 +296,7 @@ fn told_line(
     }
 }
 
-/// What is shown of the picture that was done, behind the first `pictures`.
+/// Returns the numbers shown of the completed picture. `pictures` is the number of pictures before.
 fn picture_numbers(feed: &Feed, pictures: u64) -> PictureNumbers
     requires { HasPicture feed.now.assembler }
     ensures { (R : Readers) → AreOfH266 R → (g : List ℕ) (units : List UnitPlace) (r : Reading) (before : List Reading)
@@ -302,7 +306,7 @@ fn picture_numbers(feed: &Feed, pictures: u64) -> PictureNumbers
     PictureNumbers::of(pictures, &feed.picture())
 }
 
-/// What is shown of the set that was taken last.
+/// Returns the numbers shown of the set taken last.
 fn set_numbers(feed: &Feed, what: Accepted) -> Option<SetNumbers>
     ensures { (R : Readers) → AreOfH266 R → (g : List ℕ) (units : List UnitPlace) (r : Reading) (before : List Reading)
         → HasFed R feed.now g units (r ∷ before) → what ≡ told_of r before
@@ -317,8 +321,7 @@ fn set_numbers(feed: &Feed, what: Accepted) -> Option<SetNumbers>
     }
 }
 
-/// How many pictures are done with a unit, behind the first `pictures`. There are no
-/// more than units.
+/// Returns the number of pictures after a unit, of which `pictures` came before. It is at most the number of units.
 fn count_with(what: Accepted, pictures: u64, units: u64) -> u64
     ensures done { what ≡ PictureDone → pictures < units → result ≡ pictures + 1 }
     ensures other { (what ≡ PictureDone → ⊥) → result ≡ pictures }

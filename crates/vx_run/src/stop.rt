@@ -1,4 +1,4 @@
-//! What stops a command before it is done.
+//! The reasons why a command stops before it is done.
 
 ghost use Rattle.std.specs.Prelude.{◌≡◌};
 ghost use Rattle.vx_run.specs.Conclusion.{where_told};
@@ -16,16 +16,16 @@ use vx_write::WriteError;
 /// Where a rule was broken.
 #[derive(Clone, Copy, Debug, PartialEq, Eq)]
 pub enum Place {
-    /// A NAL unit of a source, both from 0; at the end of a source, how many it has.
+    /// A NAL unit of a source, both counted from 0. At the end of a source, `unit` is its number of units.
     Unit { source: u16, unit: u64 },
     /// A picture, or a round of pictures, from 0.
     Picture(u64),
-    /// What the words name.
+    /// The arguments.
     Words,
 }
 
 impl Place {
-    /// The place as [`vx_report::refusal_line`] takes it.
+    /// Returns the place as [`vx_report::refusal_line`] takes it.
     pub fn told(self) -> Where
         ensures { result ≡ where_told self }
     {
@@ -58,25 +58,25 @@ impl Place {
     }
 }
 
-/// Why a command is not done.
+/// The reason why a command isn't done.
 #[derive(Clone, Copy, Debug, PartialEq, Eq)]
 pub enum Stop {
-    /// The words are no command.
+    /// The arguments are no command.
     NotUnderstood,
-    /// A rule was broken.
+    /// A rule is broken.
     Refused { refusal: Refusal, place: Place },
-    /// A finished stream isn't its sources put together.
+    /// A finished stream isn't the merge of its sources.
     Mismatched { mismatch: Mismatch, picture: u64 },
     /// A read of this source failed.
     ReadFault { source: u16 },
-    /// A write of what the command makes failed.
+    /// A write to the output failed.
     WriteFault,
-    /// No memory was found.
+    /// There is no memory.
     NoMemory,
 }
 
 impl Stop {
-    /// What stops a command where the feed of source `k` stops behind its n-th unit.
+    /// Returns why a command stops if the feed of source `k` stops after `n` units.
     pub(crate) fn of_feed(fault: FeedFault, k: u16, n: u64) -> Stop
         ensures { result ≡ stop_of_feed fault k n }
     {
@@ -90,7 +90,7 @@ impl Stop {
         }
     }
 
-    /// What stops a command where the n-th picture, or round, isn't written.
+    /// Returns why a command stops if picture, or round, `n` isn't written.
     pub fn of_write(error: WriteError, n: u64) -> Stop
         ensures { result ≡ stop_of_write error n }
     {

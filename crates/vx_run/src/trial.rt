@@ -1,4 +1,4 @@
-//! `trial`: streams that are made from a number, merged, taken apart and counted.
+//! `trial`: streams generated from a number, merged, extracted again, and counted.
 
 ghost use Rattle.std.specs.Prelude.{◌≡◌, IfOk};
 ghost use Rattle.vx_run.specs.Change.{change};
@@ -10,7 +10,7 @@ use std::alloc::{AllocError, Global};
 use vx_io::{Sink, write_all};
 use vx_trial::Tally;
 
-/// Merges so many streams of so many pictures, made from a seed, extracts each region, and says what came of it.
+/// Runs `trial`: merges `sources` streams of `pictures` pictures made from `seed`, extracts each region, and writes the counts.
 pub(crate) fn trial<K: Sink>(
     alloc: Global,
     seed: u32,
@@ -27,7 +27,7 @@ pub(crate) fn trial<K: Sink>(
     Ok(())
 }
 
-/// `trial pictures 10 slices 40 bytes 680 weight 83935609`
+/// Makes the line `trial pictures 10 slices 40 bytes 680 weight 83935609`, with these numbers.
 fn trial_line(alloc: Global, tally: Tally) -> Result<Vec<u8>, AllocError>
     ensures { IfOk result (λ line. line.items ≡ trial_text tally) }
 {

@@ -1,4 +1,4 @@
-//! `verify merge`: whether the pictures of a finished byte stream are those of its sources put together, round by round.
+//! `verify merge`: whether a finished byte stream is the merge of its sources, round by round.
 
 ghost use Rattle.std.specs.Prelude.{◌≡◌, ◌+◌, ◌<◌, ◌≤◌, ◌^◌, List, All, None, map, length, vec_len, IfOk, IfErr, OnOk};
 ghost use Rattle.vx_pic.specs.Readings.{Picture as StreamPicture};
@@ -22,7 +22,7 @@ use vx_io::{Sink, Source, write_all};
 use vx_merge::{Lengths, lengths};
 use vx_verify::{Mismatch, Spot, Verifier, VerifyError};
 
-/// Says how many rounds of pictures there are, where the first file is the others put together, each at its place.
+/// Runs `verify merge`: writes how many rounds there are, if file 0 is the merge of the others, each at its place.
 pub(crate) fn verify<K: Sink>(
     alloc: Global,
     placings: Placings<'_>,
@@ -41,7 +41,7 @@ pub(crate) fn verify<K: Sink>(
     verify_files(alloc, placings, sources, out)
 }
 
-/// Says how many rounds are verified.
+/// Verifies all rounds of at most 64 sources, and writes how many there are.
 fn verify_files<K: Sink>(
     alloc: Global,
     placings: Placings<'_>,
@@ -63,7 +63,7 @@ fn verify_files<K: Sink>(
     Ok(())
 }
 
-/// The places at which these words place files.
+/// Returns the place of each source.
 fn spots_of(alloc: Global, placings: Placings<'_>) -> Result<Vec<Spot>, AllocError>
     ensures { IfOk result (λ spots. spots.items ≡ spots_by (spelled placings.entry.words.now)) }
 {
@@ -78,7 +78,7 @@ fn spots_of(alloc: Global, placings: Placings<'_>) -> Result<Vec<Spot>, AllocErr
     Ok(spots)
 }
 
-/// Verifies round after round of pictures of the files, and says how many there are.
+/// Verifies round after round, and returns how many there are.
 fn verify_rounds(
     alloc: Global,
     spots: &[Spot],
@@ -102,7 +102,9 @@ fn verify_rounds(
     Ok(rounds)
 }
 
-/// Comes to the next picture of each file, in order, behind so many rounds, if they go on.
+/// Advances each file to its next picture, in order. Returns `false` if all have ended.
+///
+/// `rounds` is the number of rounds before.
 fn advance_files(
     feeds: &mut Vec<Feed>,
     sources: &mut Vec<Box<dyn Source>>,
@@ -126,7 +128,9 @@ fn advance_files(
     all_alike(ended, rounds)
 }
 
-/// Whether all files go on behind so many rounds, or all have ended.
+/// Returns `true` if all files go on after `rounds` rounds, and `false` if all have ended.
+///
+/// *Errors:* the lowest file that has ended, if another one goes on (C5).
 fn all_alike(ended: &[bool], rounds: u64) -> Result<bool, Stop>
     requires { (0 < length ended.now) × (length ended.now ≤ 65536) }
     ensures goes { GoesBy length_differs ended.now rounds result }
@@ -142,7 +146,8 @@ fn all_alike(ended: &[bool], rounds: u64) -> Result<bool, Stop>
     }
 }
 
-/// Verifies the round of the pictures that the feeds lend, behind so many rounds; the first feed is that of the finished stream.
+/// Verifies the round of the pictures that the feeds lend, of which the first is the finished stream's. `rounds` is the number of rounds
+/// before.
 fn verify_round(verifier: &mut Verifier, feeds: &[Feed], rounds: u64) -> Result<(), Stop>
     requires count { length feeds.now ≡ length verifier.old.spots + 1 }
     requires holds { All (λ f. HasPicture f.assembler) feeds.now }
@@ -156,7 +161,7 @@ fn verify_round(verifier: &mut Verifier, feeds: &[Feed], rounds: u64) -> Result<
     }
 }
 
-/// What stops the command where round `n` isn't verified.
+/// Returns why the command stops if round `n` isn't verified.
 fn stop_of_round(error: VerifyError, n: u64) -> Stop
     ensures { result ≡ stop_in error n }
 {
@@ -169,7 +174,7 @@ fn stop_of_round(error: VerifyError, n: u64) -> Stop
     }
 }
 
-/// `yes pictures 2`
+/// Makes the line `yes pictures 2`, with this number.
 fn yes_line(alloc: Global, rounds: u64) -> Result<Vec<u8>, AllocError>
     ensures { IfOk result (λ line. line.items ≡ yes_text rounds) }
 {

@@ -1,4 +1,4 @@
-//! The program, with what it gathers to write.
+//! The program with its output buffer.
 
 ghost use Rattle.std.specs.Prelude.{◌≡◌, ◌↔◌, ◌≤◌, [], vec_len};
 ghost use Rattle.std.specs.Io.Buffered.{writer_buffer};
@@ -14,8 +14,7 @@ use std::alloc::Global;
 use std::io::Write;
 use vx_io::{Sink, Source};
 
-/// Does what the words ask for, as [`run`] does, and writes what was gathered and not yet written.
-/// Answers the status of it all.
+/// Runs a command as [`run`] does, writes what `out` still holds at its end, and returns the exit status of both.
 pub fn run_whole<W: Write + Drop, E: Sink>(
     alloc: Global,
     words: &[String],

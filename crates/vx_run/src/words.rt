@@ -1,4 +1,4 @@
-//! The grammar of the program's words, without the program's name.
+//! The grammar of the program's arguments, without the program's name.
 
 ghost use Rattle.std.specs.Prelude.{◌≡◌, ◌≤◌, ◌∷◌, ◌↔◌, [], ℕ, Bool, List, Option as OptionOf, true, false, decimal, codes, None, IfSome, IfNone, IsTrue, MatchOption, map, slice_get, option_copied};
 ghost use Rattle.vx_run.specs.inner.Asked.{asked};
@@ -9,7 +9,7 @@ ghost use Rattle.vx_run.specs.inner.Words.{BeginsNot, NoneAlone, IsNumberFirst, 
 use crate::placings::Placings;
 use vx_explain::{explanation, rules_and_fields_are_explained};
 
-/// What the words ask for, with what they name.
+/// A command, with the options and files that its arguments name.
 #[derive(Clone, Copy)]
 pub(crate) enum Command<'a> {
     /// `show [--fields] FILE`
@@ -65,19 +65,19 @@ pub(crate) enum Command<'a> {
     },
 }
 
-/// The greatest TemporalId, level and index of a subpicture that words may name.
+/// The highest TemporalId, level and subpicture index that arguments may name.
 const MOST_TID: u8 = 6;
 
 const MOST_LEVEL: u8 = 255;
 
 const MOST_INDEX: u32 = 999;
 
-/// The most streams of a trial, and pictures of each.
+/// The most streams of a trial, and the most pictures of each.
 const MOST_STREAMS: u32 = 16;
 
 const MOST_PICTURES: u32 = 1000;
 
-/// The command that the words spell.
+/// Parses the arguments; `None` if they are no command.
 pub(crate) fn command_of(words: &[String]) -> Option<Command<'_>>
     ensures some { IfSome result (λ command. AskFor (texts words.now) (asked command)) }
     ensures none { IfNone result (¬ IsUnderstood (texts words.now)) }
@@ -109,7 +109,7 @@ pub(crate) fn command_of(words: &[String]) -> Option<Command<'_>>
     check_of(behind(words, "check")?)
 }
 
-/// The command, where it is one word alone.
+/// Parses a command of a single argument without a file.
 fn plain_of(words: &[String]) -> Option<Command<'_>>
     ensures some { IfSome result (λ command. AskFor (texts words.now) (asked command)) }
     ensures none { IfNone result ((command : Asked) → is_plain command ≡ true → AskFor (texts words.now) command → ⊥) }
@@ -121,7 +121,7 @@ fn plain_of(words: &[String]) -> Option<Command<'_>>
     }
 }
 
-/// `[--fields] FILE`
+/// Parses `[--fields] FILE`.
 fn show_of(words: &[String]) -> Option<Command<'_>>
     ensures some { IfSome result (λ command. AskFor (codes "show" ∷ texts words.now) (asked command)) }
     ensures none { IfNone result ((fields : Bool) (file : List ℕ) → AskFor (codes "show" ∷ texts words.now) (show fields file) → ⊥) }
@@ -137,7 +137,7 @@ fn show_of(words: &[String]) -> Option<Command<'_>>
     }
 }
 
-/// `--fields FILE`, where this is no file alone.
+/// Parses `--fields FILE`, of arguments that aren't a single file.
 fn show_fields_of(words: &[String]) -> Option<Command<'_>>
     requires { NoneAlone (texts words.now) }
     ensures some { IfSome result (λ command. AskFor (codes "show" ∷ texts words.now) (asked command)) }
@@ -148,7 +148,7 @@ fn show_fields_of(words: &[String]) -> Option<Command<'_>>
     Some(Command::Show { fields: true, file })
 }
 
-/// `WORD`: a rule, or the number of a field.
+/// Parses `WORD`: a rule, or the number of a field.
 fn explain_of(words: &[String]) -> Option<Command<'_>>
     ensures some { IfSome result (λ command. AskFor (codes "--explain" ∷ texts words.now) (asked command)) }
     ensures none { IfNone result ((word : List ℕ) → AskFor (codes "--explain" ∷ texts words.now) (explain word) → ⊥) }
@@ -163,7 +163,7 @@ fn explain_of(words: &[String]) -> Option<Command<'_>>
     }
 }
 
-/// Whether a word is a rule or the number of a field.
+/// Returns whether `word` is a rule or the number of a field.
 fn is_rule_or_field(word: &str) -> bool
     ensures { IsTrue result ↔ IsRuleOrField word.now }
 {
@@ -171,7 +171,7 @@ fn is_rule_or_field(word: &str) -> bool
     explanation(word.as_bytes()).is_some()
 }
 
-/// What is checked.
+/// Parses the arguments after `check`.
 fn check_of(words: &[String]) -> Option<Command<'_>>
     ensures some { IfSome result (λ command. AskFor (codes "check" ∷ texts words.now) (asked command)) }
     ensures none { IfNone result ((command : Asked) → AskFor (codes "check" ∷ texts words.now) command → ⊥) }
@@ -182,7 +182,7 @@ fn check_of(words: &[String]) -> Option<Command<'_>>
     check_merge_of(behind(words, "merge")?)
 }
 
-/// `[--tid T] [--level N] INDEX FILE`
+/// Parses `[--tid T] [--level N] INDEX FILE`.
 fn extract_of(words: &[String]) -> Option<Command<'_>>
     ensures some { IfSome result (λ command. AskFor (codes "extract" ∷ texts words.now) (asked command)) }
     ensures none { IfNone result ((tid level : OptionOf ℕ) (index : ℕ) (file : List ℕ)
@@ -200,7 +200,7 @@ fn extract_of(words: &[String]) -> Option<Command<'_>>
     })
 }
 
-/// `[--tid T] INDEX FILE`
+/// Parses `[--tid T] INDEX FILE`.
 fn check_extract_of(words: &[String]) -> Option<Command<'_>>
     ensures some { IfSome result (λ command. AskFor (codes "check" ∷ codes "extract" ∷ texts words.now) (asked command)) }
     ensures none { IfNone result ((tid : OptionOf ℕ) (index : ℕ) (file : List ℕ)
@@ -212,7 +212,7 @@ fn check_extract_of(words: &[String]) -> Option<Command<'_>>
     Some(Command::CheckExtract { tid, index, file })
 }
 
-/// `[--level N] X,Y=FILE ..`
+/// Parses `[--level N] X,Y=FILE ..`.
 fn merge_of(words: &[String]) -> Option<Command<'_>>
     ensures some { IfSome result (λ command. AskFor (codes "merge" ∷ texts words.now) (asked command)) }
     ensures none { IfNone result ((level : OptionOf ℕ) (placings : List PlacingAsked)
@@ -222,7 +222,7 @@ fn merge_of(words: &[String]) -> Option<Command<'_>>
     Some(Command::Merge { level, placings })
 }
 
-/// `[--level N] X,Y=FILE ..`
+/// Parses `[--level N] X,Y=FILE ..`.
 fn play_of(words: &[String]) -> Option<Command<'_>>
     ensures some { IfSome result (λ command. AskFor (codes "play" ∷ texts words.now) (asked command)) }
     ensures none { IfNone result ((level : OptionOf ℕ) (placings : List PlacingAsked)
@@ -232,7 +232,7 @@ fn play_of(words: &[String]) -> Option<Command<'_>>
     Some(Command::Play { level, placings })
 }
 
-/// `[--level N] X,Y=FILE ..`: the level, if there is one, and the words behind it.
+/// Parses `[--level N] X,Y=FILE ..` into the level, if there is one, and the placings.
 fn level_and_files(words: &[String]) -> Option<(Option<u8>, Placings<'_>)>
     ensures { MatchOption result
         ((level : OptionOf ℕ) (placings : List PlacingAsked) → NameLevelAndFiles (texts words.now) level placings → ⊥)
@@ -243,7 +243,7 @@ fn level_and_files(words: &[String]) -> Option<(Option<u8>, Placings<'_>)>
     Some((level, placings))
 }
 
-/// `X,Y=FILE ..`
+/// Parses `X,Y=FILE ..`.
 fn check_merge_of(words: &[String]) -> Option<Command<'_>>
     ensures some { IfSome result (λ command. AskFor (codes "check" ∷ codes "merge" ∷ texts words.now) (asked command)) }
     ensures none { IfNone result ((placings : List PlacingAsked)
@@ -253,7 +253,7 @@ fn check_merge_of(words: &[String]) -> Option<Command<'_>>
     Some(Command::CheckMerge { placings })
 }
 
-/// `merge OUT X,Y=FILE ..`
+/// Parses `merge OUT X,Y=FILE ..`.
 fn verify_of(words: &[String]) -> Option<Command<'_>>
     ensures some { IfSome result (λ command. AskFor (codes "verify" ∷ texts words.now) (asked command)) }
     ensures none { IfNone result ((finished : List ℕ) (placings : List PlacingAsked)
@@ -265,7 +265,7 @@ fn verify_of(words: &[String]) -> Option<Command<'_>>
     Some(Command::Verify { finished, placings })
 }
 
-/// `SEED SOURCES PICTURES`
+/// Parses `SEED SOURCES PICTURES`.
 fn trial_of(words: &[String]) -> Option<Command<'_>>
     ensures some { IfSome result (λ command. AskFor (codes "trial" ∷ texts words.now) (asked command)) }
     ensures none { IfNone result ((seed sources pictures : ℕ) → AskFor (codes "trial" ∷ texts words.now) (trial seed sources pictures) → ⊥) }
@@ -280,7 +280,7 @@ fn trial_of(words: &[String]) -> Option<Command<'_>>
     })
 }
 
-/// The number that a word is, of at least 1 and at most so much.
+/// Parses a number from 1 to `most`.
 fn counted(word: &str, most: u32) -> Option<u32>
     ensures { MatchOption result
         ((n : ℕ) → 1 ≤ n → n ≤ most → word.now ≡ decimal n → ⊥)
@@ -293,7 +293,7 @@ fn counted(word: &str, most: u32) -> Option<u32>
     Some(n)
 }
 
-/// The words behind this one, where it comes first.
+/// Returns the arguments after `name`, if that is the first.
 fn behind<'a>(words: &'a [String], name: &str) -> Option<&'a [String]>
     ensures { MatchOption result (BeginsNot name.now (texts words.now)) (λ rest. texts words.now ≡ name.now ∷ texts rest.now) }
 {
@@ -306,8 +306,9 @@ fn behind<'a>(words: &'a [String], name: &str) -> Option<&'a [String]>
     Some(&words[1..])
 }
 
-/// The number of an option, where that comes first, and the words behind it. None where
-/// its number is missing.
+/// Parses an option `name N` if it comes first, with `N` at most `most`, and returns its number and the arguments after it.
+///
+/// `None` if the option comes first without such a number.
 fn option<'a>(words: &'a [String], name: &str, most: u8) -> Option<(Option<u8>, &'a [String])>
     ensures { MatchOption result
         ((n : OptionOf ℕ) (rest : List (List ℕ)) → IsOptionFirst name.now most (texts words.now) n rest → ⊥)
@@ -320,7 +321,7 @@ fn option<'a>(words: &'a [String], name: &str, most: u8) -> Option<(Option<u8>, 
     Some((Some(n as u8), rest))
 }
 
-/// The number that comes first, and the words behind it.
+/// Parses a first argument that is a number of at most `most`, and returns it and the arguments after it.
 fn number_first(words: &[String], most: u32) -> Option<(u32, &[String])>
     ensures { MatchOption result
         ((n : ℕ) (rest : List (List ℕ)) → IsNumberFirst most (texts words.now) n rest → ⊥)
@@ -333,8 +334,7 @@ fn number_first(words: &[String], most: u32) -> Option<(u32, &[String])>
     Some((n, &words[1..]))
 }
 
-/// The number that a word is, of at most so much. `parse` takes a plus and further zeros
-/// before it, which are no part of a number here.
+/// Parses a number of at most `most`. A plus sign and leading zeros, which `parse` takes, are no part of a number here.
 pub(crate) fn number(word: &str, most: u32) -> Option<u32>
     ensures { MatchOption result ((n : ℕ) → n ≤ most → word.now ≡ decimal n → ⊥) (λ n. (word.now ≡ decimal n) × (n ≤ most)) }
 {
@@ -348,7 +348,7 @@ pub(crate) fn number(word: &str, most: u32) -> Option<u32>
     (n <= most).then_some(n)
 }
 
-/// The file that comes first, and the words behind it.
+/// Returns the first argument, a file, and the arguments after it.
 fn file_first(words: &[String]) -> Option<(&str, &[String])>
     ensures { MatchOption result
         ((file : List ℕ) (rest : List (List ℕ)) → texts words.now ≡ file ∷ rest → file ≡ [])
@@ -364,7 +364,7 @@ fn file_first(words: &[String]) -> Option<(&str, &[String])>
     Some((file, &words[1..]))
 }
 
-/// The file, where it is the only word.
+/// Returns the file, if it is the only argument.
 fn file_alone(words: &[String]) -> Option<&str>
     ensures { MatchOption result
         ((file : List ℕ) → texts words.now ≡ file ∷ [] → file ≡ [])
@@ -376,7 +376,7 @@ fn file_alone(words: &[String]) -> Option<&str>
     }
 }
 
-/// How many files the words name; none where they are no command.
+/// Returns how many files the arguments name; 0 if they are no command.
 pub fn file_count(words: &[String]) -> usize
     ensures { NamesFiles (texts words.now) result }
 {
@@ -391,7 +391,7 @@ pub fn file_count(words: &[String]) -> usize
     }
 }
 
-/// The `k`-th file that the words name, from 0.
+/// Returns file `k` that the arguments name, from 0; `None` if there is no such file.
 pub fn file_word(words: &[String], k: usize) -> Option<&str>
     ensures files { (command : Asked) → AskFor (texts words.now) command
         → option_copied result ≡ slice_get (files_of command) k }
@@ -409,14 +409,14 @@ pub fn file_word(words: &[String], k: usize) -> Option<&str>
     }
 }
 
-/// The `k`-th of one file.
+/// Returns `file` for `k` = 0.
 fn file_alone_at(file: &str, k: usize) -> Option<&str>
     ensures { option_copied result ≡ slice_get (file.now ∷ []) k }
 {
     (k == 0).then_some(file)
 }
 
-/// The `k`-th of a finished stream and the files that are placed.
+/// Returns file `k` of `verify merge`: file 0 is the finished stream, then come the placed files.
 fn verified_file<'a>(finished: &'a str, placings: Placings<'a>, k: usize) -> Option<&'a str>
     ensures { option_copied result ≡ slice_get (finished.now ∷ map (λ p. p.file) (spelled placings.entry.words.now)) k }
 {
