@@ -26,8 +26,8 @@ fn main(rt: HostRuntime) -> ExitCode {
     ExitCode::from(status(&rt))
 }
 
-/// The status with which the program ends. Where its words can't be had, or no memory is found
-/// before they are run, nothing is written.
+/// Runs the program and returns its exit status. Nothing is written if the arguments can't be had, or if memory runs out before the
+/// command starts.
 fn status(rt: &HostRuntime) -> u8 {
     match words_of(rt) {
         Ok(words) => status_with_words(run_on_system(rt, &words)),
@@ -35,14 +35,14 @@ fn status(rt: &HostRuntime) -> u8 {
     }
 }
 
-/// The program's words, without its name.
+/// Returns the program's arguments, without its name.
 fn words_of(rt: &HostRuntime) -> io::Result<Vec<String>> {
     let mut args = env::args(rt)?;
     let _name = args.next();
     Ok(args.collect(rt.alloc())?)
 }
 
-/// The status where the words were run, or no memory was found before.
+/// Returns the exit status once the arguments are known: that of the command, or 4 if memory ran out before it started.
 fn status_with_words(run: Result<u8, AllocError>) -> u8
     ensures ran { IfOk run (λ status. result ≡ status) }
     ensures memory { OnErr run (result ≡ 4) }
@@ -50,7 +50,7 @@ fn status_with_words(run: Result<u8, AllocError>) -> u8
     run.unwrap_or(4)
 }
 
-/// The status where there is no memory for the words, or one of them is no text.
+/// Returns the exit status if there are no arguments to run: 4 for lack of memory, 2 if an argument isn't text.
 fn status_without_words(error: &io::Error) -> u8
     ensures memory { error_kind error.now ≡ ErrorKind.OutOfMemory → result ≡ 4 }
     ensures text { error_kind error.now ≢ ErrorKind.OutOfMemory → result ≡ 2 }
@@ -62,7 +62,7 @@ fn status_without_words(error: &io::Error) -> u8
     }
 }
 
-/// Runs the program on the files that the words name, and on the process's output.
+/// Runs the command on the files that the arguments name, with the process's standard output and standard error.
 fn run_on_system(rt: &HostRuntime, words: &[String]) -> Result<u8, AllocError>
     ensures { IfOk result (λ status. (status ≡ 2) ↔ ¬ IsUnderstood (texts words.now)) }
 {
@@ -74,8 +74,8 @@ fn run_on_system(rt: &HostRuntime, words: &[String]) -> Result<u8, AllocError>
     run_on_files(rt, words, &mut out, &mut err)
 }
 
-/// How many bytes are gathered for one write. The lines that `show` writes between two reads are
-/// one write, and stand there before the next one.
+/// Returns how many bytes the output buffer holds: 0 for `show`, so that its lines between two reads are written at once, before the next
+/// read.
 fn write_len(words: &[String]) -> usize {
     match words.first() {
         Some(word) if word.as_str() == "show" => 0,

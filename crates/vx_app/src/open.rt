@@ -1,4 +1,4 @@
-//! Opening the files that the program's words name.
+//! Opening the files that the arguments name.
 
 ghost use Rattle.std.specs.Prelude.{ℕ, List, Option as OptionOf, IfOk, vec_len};
 ghost use Rattle.vx_app.specs.Opened.{AreOpened};
@@ -10,20 +10,22 @@ use std::fs::File;
 use std::io::{ErrorKind, Read};
 use vx_run::{file_count, file_word};
 
-/// What opens files by their names.
+/// Opens files by their names.
 pub(crate) trait Opener {
     /// A file that was opened.
     type File: Read + Drop;
 
-    // What may come of opening the file of a name: a file that can be read, or none.
+    // Which results opening the file of a name may have: a file that can be read, or none.
     ghost opens: { Self → List ℕ → OptionOf Self.File → Type 0 };
 
-    /// Opens the file of this name, if it can be opened.
+    /// Opens the file `name`; `None` if it can't be opened.
+    ///
+    /// *Errors:* [`AllocError`] if there is no memory for it.
     fn open(&self, name: &str) -> Result<Option<Self::File>, AllocError>
         ensures { IfOk result (λ file. opens self.now name.now file) };
 }
 
-/// The system, of whose files nothing is known.
+/// The operating system. Contracts know nothing of its files.
 #[derive(Drop)]
 pub(crate) struct System<'a> {
     pub rt: &'a HostRuntime,
@@ -43,8 +45,9 @@ impl Opener for System<'_> {
     }
 }
 
-/// Opens the files that the words name, in order. A closed source stands for one that can't be
-/// opened.
+/// Opens the files that the arguments name: one entry for each, in their order. A file that can't be opened gives a closed source.
+///
+/// *Errors:* [`AllocError`] if memory runs out.
 pub(crate) fn open_all<O: Opener>(
     alloc: Global,
     opener: &O,

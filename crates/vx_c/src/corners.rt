@@ -1,4 +1,4 @@
-//! Corners, as C gives them.
+//! Corners as C passes them.
 ghost use Rattle.std.specs.Prelude.{◌≡◌, map, IfOk};
 ghost use Rattle.vx_c.specs.Merger.{corner_of};
 
@@ -13,7 +13,7 @@ pub struct GqCorner {
     pub y: u32,
 }
 
-/// The corner of a region.
+/// Returns the corner of a region.
 fn corner_in(corner: GqCorner) -> Corner
     ensures { result ≡ corner_of corner }
 {
@@ -24,7 +24,7 @@ fn corner_in(corner: GqCorner) -> Corner
 }
 
 #[tactic(auto, using(crate::proofs::CornerLists::more, crate::proofs::CornerLists::all))]
-/// The corners of regions.
+/// Returns the corners of regions, in order.
 pub(crate) fn corners_in(alloc: Global, corners: &[GqCorner]) -> Result<Vec<Corner>, AllocError>
     ensures { IfOk result (λ made. made.items ≡ map corner_of corners.now) }
 {

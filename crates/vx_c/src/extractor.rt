@@ -1,4 +1,4 @@
-//! An extractor, to which bytes are handed in as they come.
+//! The extractor of the C library, to which bytes are pushed as they arrive.
 ghost use Rattle.std.specs.Prelude.{◌≡◌, Some, None, IfOk, IfSome, IfNone};
 ghost use Rattle.vx_push.specs.Comes.{with_end, with_zeros};
 ghost use Rattle.vx_push.specs.Cutting.{Cutting};
@@ -16,12 +16,12 @@ use std::alloc::{AllocError, Global};
 use vx_push::{Cut, Cutter};
 use vx_run::Task;
 
-/// The greatest index of a subpicture, and the greatest TemporalId.
+/// The highest index of a subpicture, and the highest TemporalId.
 const MOST_INDEX: u32 = 999;
 
 const MOST_TID: u8 = 6;
 
-/// An extractor in a box; none where a number is out of its range.
+/// Makes an extractor in a box; `None` if a number is out of its range.
 fn opened(alloc: Global, index: u32, tid: u8, level: u8) -> Result<Option<Box<State>>, AllocError>
     ensures made { IfOk result (λ made. IfSome made (λ state. IsTask index tid
         × ((c : Cutting) × (state.value ≡ Extractor c) × IsFresh c (task_of index tid level)))) }
@@ -42,7 +42,7 @@ fn opened(alloc: Global, index: u32, tid: u8, level: u8) -> Result<Option<Box<St
     Ok(Some(Box::new(alloc, State::Extractor(cutter))?))
 }
 
-/// Hands in the next bytes.
+/// Pushes the next bytes.
 fn push(cutter: &mut Cutter, bytes: &[u8], taken: &mut usize) -> u8
     ensures { Pushes cutter.old cutter.new bytes.now taken.new result }
 {
@@ -50,7 +50,7 @@ fn push(cutter: &mut Cutter, bytes: &[u8], taken: &mut usize) -> u8
     DONE
 }
 
-/// The last unit that was handed in is whole.
+/// Declares the last unit pushed complete.
 fn flush(cutter: &mut Cutter) -> u8
     ensures { HandsOver cutter.old cutter.new (with_zeros cutter.old.intake) result }
 {
@@ -58,7 +58,7 @@ fn flush(cutter: &mut Cutter) -> u8
     DONE
 }
 
-/// There are no more bytes.
+/// Declares that there are no more bytes.
 fn end(cutter: &mut Cutter) -> u8
     ensures { HandsOver cutter.old cutter.new with_end result }
 {
@@ -66,7 +66,7 @@ fn end(cutter: &mut Cutter) -> u8
     DONE
 }
 
-/// Goes on as far as the bytes allow.
+/// Advances as far as the bytes allow.
 fn advance(cutter: &mut Cutter, picture: &mut GqPicture) -> u8
     ensures { Advances cutter.old cutter.new picture.old picture.new result }
 {
@@ -83,7 +83,7 @@ fn advance(cutter: &mut Cutter, picture: &mut GqPicture) -> u8
     }
 }
 
-/// Copies the picture that waits, and gives it up.
+/// Copies the picture that is to be taken, and gives it up.
 fn take(cutter: &mut Cutter, into: &mut [u8]) -> u8
     ensures { TakesPicture cutter.old cutter.new into.old into.new result }
 {
@@ -93,7 +93,7 @@ fn take(cutter: &mut Cutter, into: &mut [u8]) -> u8
     took(cutter.take(into))
 }
 
-/// The line of what stopped it, and how many bytes it has; 0 where it isn't stopped.
+/// Writes the line that says why it stopped, and returns its length; 0 if it isn't stopped.
 fn line(alloc: Global, cutter: &Cutter, into: &mut [u8]) -> usize
     ensures { TellsLine (stop_in cutter.now.end) into.old into.new result }
 {
@@ -103,7 +103,10 @@ fn line(alloc: Global, cutter: &Cutter, into: &mut [u8]) -> usize
     }
 }
 
-/// Opens an extractor.
+/// Opens an extractor of subpicture `index` of the pictures with a TemporalId of at most `temporal_id`.
+///
+/// `index` is at most 999, `temporal_id` at most 6. `level` is the level to write; 0 keeps the source's. Returns `MISUSED` if the handle
+/// is open, which it stays, or if a number is out of its range, and `NO_MEMORY`; in both of these last cases the handle stays closed.
 #[unsafe(no_mangle)]
 pub extern "C" fn gq_extractor_open(
     alloc: Global,
@@ -118,7 +121,9 @@ pub extern "C" fn gq_extractor_open(
     open_with!(handle, alloc, opened(alloc, index, temporal_id, level))
 }
 
-/// Hands in the next bytes.
+/// Pushes the next bytes, and sets `taken` to how many of them were taken.
+///
+/// Returns `MISUSED` if the handle isn't that of an extractor; `taken` is then 0.
 #[unsafe(no_mangle)]
 pub extern "C" fn gq_extractor_push(
     alloc: Global,
@@ -140,7 +145,7 @@ pub extern "C" fn gq_extractor_push(
     )
 }
 
-/// The last unit that was handed in is whole.
+/// Declares the last unit pushed complete. Returns `MISUSED` if the handle isn't that of an extractor.
 #[unsafe(no_mangle)]
 pub extern "C" fn gq_extractor_flush(alloc: Global, handle: &mut Handle) -> u8
     ensures { Calls Extractor handle.old.state handle.new.state result
@@ -149,7 +154,7 @@ pub extern "C" fn gq_extractor_flush(alloc: Global, handle: &mut Handle) -> u8
     call_on!(handle, alloc, Extractor, MISUSED, |cutter| flush(cutter))
 }
 
-/// There are no more bytes.
+/// Declares that there are no more bytes. Returns `MISUSED` if the handle isn't that of an extractor.
 #[unsafe(no_mangle)]
 pub extern "C" fn gq_extractor_end(alloc: Global, handle: &mut Handle) -> u8
     ensures { Calls Extractor handle.old.state handle.new.state result
@@ -158,7 +163,10 @@ pub extern "C" fn gq_extractor_end(alloc: Global, handle: &mut Handle) -> u8
     call_on!(handle, alloc, Extractor, MISUSED, |cutter| end(cutter))
 }
 
-/// Goes on as far as the bytes allow.
+/// Advances as far as the bytes allow.
+///
+/// Returns `DONE` if a picture is to be taken, which `picture` describes, `WAITS` if bytes are needed, `ENDED` at the end, `REFUSED` for
+/// a broken rule, `NO_MEMORY`, or `MISUSED` if the handle isn't that of an extractor. Only `DONE` changes `picture`.
 #[unsafe(no_mangle)]
 pub extern "C" fn gq_extractor_next(
     alloc: Global,
@@ -177,7 +185,10 @@ pub extern "C" fn gq_extractor_next(
     )
 }
 
-/// Copies the picture that waits to the front of the room, and gives it up.
+/// Copies the picture that is to be taken to the beginning of `into`, and gives it up.
+///
+/// Returns `NO_ROOM` if `into` is too short, and `MISUSED` if there is no picture or the handle isn't that of an extractor; `into` is
+/// then unchanged, and a picture stays.
 #[unsafe(no_mangle)]
 pub extern "C" fn gq_extractor_take(alloc: Global, handle: &mut Handle, into: &mut [u8]) -> u8
     ensures call { Calls Extractor handle.old.state handle.new.state result (λ c later. TakesPicture c later into.old into.new result) }
@@ -192,7 +203,9 @@ pub extern "C" fn gq_extractor_take(alloc: Global, handle: &mut Handle, into: &m
     )
 }
 
-/// The line that tells why it is stopped, and how many bytes it has.
+/// Writes the line that says why it stopped to `into`, cut to its length, and returns the length of the whole line.
+///
+/// Returns 0 if it isn't stopped, if there is no memory for the line, or if the handle isn't that of an extractor.
 #[unsafe(no_mangle)]
 pub extern "C" fn gq_extractor_line(alloc: Global, handle: &mut Handle, into: &mut [u8]) -> usize
     ensures kept { handle.new.state ≡ handle.old.state }
@@ -208,7 +221,7 @@ pub extern "C" fn gq_extractor_line(alloc: Global, handle: &mut Handle, into: &m
     )
 }
 
-/// Gives back all that an extractor holds. The handle is closed then.
+/// Frees all that the handle holds, and closes it.
 #[unsafe(no_mangle)]
 pub extern "C" fn gq_extractor_close(alloc: Global, handle: &mut Handle)
     ensures { handle.new.state ≡ None }

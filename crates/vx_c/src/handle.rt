@@ -1,4 +1,4 @@
-//! What C holds of a merger or an extractor.
+//! The handle that C holds of a merger or an extractor.
 ghost use Rattle.std.specs.Prelude.{◌≡◌, Option, Some, None};
 ghost use Rattle.std.specs.Option.{MatchOption};
 ghost use Rattle.vx_c.specs.declared.state.State.{State as Stated};
@@ -10,7 +10,9 @@ use std::marker::Model;
 use std::mem;
 use std::ptr::null_mut;
 
-/// What C holds of a merger or an extractor, or of none. All zeros is one of none.
+/// What C holds: a merger, an extractor, or nothing. All zeros is a closed handle, which holds nothing.
+///
+/// It may move from one thread to another (`Send`).
 #[repr(C)]
 pub struct Handle {
     at: *mut u8,
@@ -25,7 +27,7 @@ impl Model for Handle {
 }
 
 impl Handle {
-    /// One of none.
+    /// Returns a closed handle.
     pub(crate) fn none() -> Handle
         ensures { result.state ≡ None }
     {
@@ -35,7 +37,7 @@ impl Handle {
         }
     }
 
-    /// One of what is in the box.
+    /// Returns a handle that holds what is in the box.
     fn of(state: Loose<State, Global>) -> Handle
         ensures { result.state ≡ Some state.value }
     {
@@ -46,7 +48,7 @@ impl Handle {
         }
     }
 
-    /// The box of what it is of, if it is of any.
+    /// Returns the box of what it holds, if it holds something.
     fn into_loose(self, alloc: Global) -> Option<Loose<State, Global>>
         ensures { MatchOption result (self.state ≡ None) (λ loose. self.state ≡ Some loose.value) }
     {
@@ -61,7 +63,7 @@ impl Handle {
         }
     }
 
-    /// The same, put together.
+    /// Returns the box of what it holds, put together again.
     pub(crate) fn into_box(self, alloc: Global) -> Option<Box<State>>
         ensures { MatchOption result (self.state ≡ None) (λ state. self.state ≡ Some state.value) }
     {
@@ -71,7 +73,7 @@ impl Handle {
         }
     }
 
-    /// Takes what it is of, and leaves one of none.
+    /// Takes what it holds, and leaves it closed.
     pub(crate) fn take(&mut self, alloc: Global) -> Option<Box<State>>
         ensures closed { self.new.state ≡ None }
         ensures taken { MatchOption result (self.old.state ≡ None) (λ state. self.old.state ≡ Some state.value) }
@@ -79,7 +81,7 @@ impl Handle {
         mem::replace(self, Handle::none()).into_box(alloc)
     }
 
-    /// Makes it one of this. What it was of before is dropped.
+    /// Makes it hold what is in the box, and drops what it held before.
     pub(crate) fn put(&mut self, state: Box<State>, alloc: Global)
         ensures { self.new.state ≡ Some state.value }
     {
@@ -88,19 +90,19 @@ impl Handle {
     }
 }
 
-/// A handle may go from one thread to another, as what it is of may.
+/// A handle may move from one thread to another because what it holds may: `both_go`.
 unsafe impl Send for Handle {}
 
-/// What may go from one thread to another.
+/// Accepts only values that may move from one thread to another.
 fn goes<T: Send>(_value: &T) {}
 
-/// A handle does, and what it is of: so it is proved of both.
+/// Shows that a handle, and what it holds, may move from one thread to another.
 fn both_go(handle: &Handle, state: &State) {
     goes(handle);
     goes(state);
 }
 
-/// Makes a closed handle one of what is made here: a box; or none, where what is asked for can't be. An open one is misused.
+/// Makes a closed handle hold the box that `$made` gives. `MISUSED` if it gives none, or if the handle is open.
 macro_rules! open_with {
     ($handle:ident, $alloc:ident, $made:expr) => {{
         if let Some(state) = $handle.take($alloc) {
@@ -118,7 +120,7 @@ macro_rules! open_with {
     }};
 }
 
-/// Does this to what a handle is of, where it is one of this kind; else answers the other.
+/// Calls `$call` on what the handle holds if that is of this kind; otherwise returns `$other`.
 macro_rules! call_on {
     ($handle:ident, $alloc:ident, $kind:ident, $other:expr, |$of:ident| $call:expr) => {{
         let Some(mut state) = $handle.take($alloc) else {

@@ -1,4 +1,4 @@
-//! The line that tells why there are no more pictures.
+//! The line that says why there are no more pictures.
 ghost use Rattle.std.specs.Prelude.{Some};
 ghost use Rattle.vx_c.specs.Call.{TellsLine};
 
@@ -7,8 +7,9 @@ use std::alloc::Global;
 use vx_push::stop_line;
 use vx_run::Stop;
 
-/// Puts the line of a stop to the front of the room, as far as it goes, and answers how many bytes it has: 0 where there is no memory
-/// for it.
+/// Copies the line of a stop to the beginning of `into`, cut to its length, and returns the length of the whole line.
+///
+/// Returns 0 if there is no memory for the line.
 pub(crate) fn tell(alloc: Global, stop: Stop, into: &mut [u8]) -> usize
     ensures { TellsLine (Some stop) into.old into.new result }
 {

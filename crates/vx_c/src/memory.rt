@@ -1,4 +1,4 @@
-//! Words, streams and room in the caller's memory.
+//! Arguments, streams and output in the caller's memory.
 ghost use Rattle.std.specs.Prelude.{◌≡◌, ◌≢◌, ◌++◌, All, length, map, min, take, drop, IfOk, IfSome, IfNone};
 ghost use Rattle.std.specs.List.{sum};
 ghost use Rattle.std.specs.Str.{IsUtf8};
@@ -9,7 +9,7 @@ ghost use Rattle.vx_c.specs.InMemory as caller;
 use std::alloc::{AllocError, Global};
 use vx_io::MemorySource;
 
-/// The words of a text, which line feeds part; none where one of them is no text.
+/// Splits `text` at line feeds into arguments; `None` if one of them isn't valid UTF-8.
 pub(crate) fn words_in(alloc: Global, text: &[u8]) -> Result<Option<Vec<String>>, AllocError>
     ensures words { IfOk result (λ all. IfSome all (λ words. texts words.items ≡ caller.words_in text.now)) }
     ensures none { IfOk result (λ all. IfNone all (¬ All IsUtf8 (caller.words_in text.now))) }
@@ -24,7 +24,7 @@ pub(crate) fn words_in(alloc: Global, text: &[u8]) -> Result<Option<Vec<String>>
     Ok(Some(words))
 }
 
-/// The streams that stand one after another in these bytes, each of its length; none where they don't come to all of the bytes.
+/// Splits `bytes` into streams of these lengths; `None` if the lengths don't add up to all of `bytes`.
 pub(crate) fn sources_in(
     alloc: Global,
     bytes: &[u8],
@@ -50,7 +50,7 @@ pub(crate) fn sources_in(
     }
 }
 
-/// Puts as many of these bytes as there is room for to the front of the room, and answers how many they are.
+/// Copies a prefix of `bytes` to the beginning of `into`, as much as there is room for, and returns its length.
 pub(crate) fn put(bytes: &[u8], into: &mut [u8]) -> usize
     ensures count { result ≡ min (length bytes.now) (length into.old) }
     ensures put { into.new ≡ take result bytes.now ++ drop result into.old }

@@ -1,4 +1,4 @@
-//! A merger, to which bytes are handed in as they come.
+//! The merger of the C library, to which bytes are pushed as they arrive.
 ghost use Rattle.std.specs.Prelude.{◌≡◌, Some, None, map, IfOk, IfErr, IfSome, IfNone};
 ghost use Rattle.vx_frame.specs.Corners.{AreCorners};
 ghost use Rattle.vx_push.specs.Comes.{with_end, with_zeros};
@@ -16,14 +16,14 @@ use crate::status::{DONE, ENDED, MISUSED, NO_MEMORY, WAITS, status_of, took};
 use std::alloc::{AllocError, Global};
 use vx_push::{Mixed, Mixer, NoSource, are_corners};
 
-/// The level that is told, of which 0 is the sources' highest.
+/// Returns the level to write; 0 means that of the sources.
 pub(crate) fn level_in(level: u8) -> Option<u8>
     ensures { result ≡ level_of level }
 {
     if level == 0 { None } else { Some(level) }
 }
 
-/// A merger in a box; none where the corners can't be.
+/// Makes a merger in a box; `None` for corners that can't be.
 fn opened(alloc: Global, corners: &[GqCorner], level: u8) -> Result<Option<Box<State>>, AllocError>
     ensures made { IfOk result (λ made. IfSome made (λ state. AreCorners (map corner_of corners.now)
         × ((m : Mixing) × (state.value ≡ Merger m) × IsFresh m (map corner_of corners.now) (level_of level)))) }
@@ -37,7 +37,7 @@ fn opened(alloc: Global, corners: &[GqCorner], level: u8) -> Result<Option<Box<S
     Ok(Some(Box::new(alloc, State::Merger(mixer))?))
 }
 
-/// Hands in the next bytes of a source.
+/// Pushes the next bytes of a source.
 fn push(mixer: &mut Mixer, source: usize, bytes: &[u8], taken: &mut usize) -> u8
     ensures { Pushes mixer.old mixer.new source bytes.now taken.new result }
 {
@@ -53,7 +53,7 @@ fn push(mixer: &mut Mixer, source: usize, bytes: &[u8], taken: &mut usize) -> u8
     }
 }
 
-/// What is answered where something was handed in of a source, or there is no such source.
+/// Returns the status of a call on a source: `MISUSED` if there is no such source.
 fn handed_in(handed: Result<(), NoSource>) -> u8
     ensures done { IfOk handed (λ _. result ≡ DONE) }
     ensures misused { IfErr handed (λ _. result ≡ MISUSED) }
@@ -64,7 +64,7 @@ fn handed_in(handed: Result<(), NoSource>) -> u8
     }
 }
 
-/// Goes on as far as the bytes allow.
+/// Advances as far as the bytes allow.
 fn advance(mixer: &mut Mixer, source: &mut usize, picture: &mut GqPicture) -> u8
     ensures { Advances mixer.old mixer.new source.old source.new picture.old picture.new result }
 {
@@ -84,7 +84,7 @@ fn advance(mixer: &mut Mixer, source: &mut usize, picture: &mut GqPicture) -> u8
     }
 }
 
-/// Copies the picture that waits, and gives it up.
+/// Copies the picture that is to be taken, and gives it up.
 fn take(mixer: &mut Mixer, into: &mut [u8]) -> u8
     ensures { TakesPicture mixer.old mixer.new into.old into.new result }
 {
@@ -94,7 +94,7 @@ fn take(mixer: &mut Mixer, into: &mut [u8]) -> u8
     took(mixer.take(into))
 }
 
-/// The line of what stopped it, and how many bytes it has; 0 where it isn't stopped.
+/// Writes the line that says why it stopped, and returns its length; 0 if it isn't stopped.
 fn line(alloc: Global, mixer: &Mixer, into: &mut [u8]) -> usize
     ensures { TellsLine (stop_in mixer.now.end) into.old into.new result }
 {
@@ -104,7 +104,11 @@ fn line(alloc: Global, mixer: &Mixer, into: &mut [u8]) -> usize
     }
 }
 
-/// Opens a merger.
+/// Opens a merger of one source for each corner, the upper left corner of its region in luma samples.
+///
+/// There are 1 to 64 corners, with coordinates below 16,384. `level` is the level to write; 0 means the highest of the sources'. Returns
+/// `MISUSED` if the handle is open, which it stays, or if the corners can't be, and `NO_MEMORY`; in both of these last cases the handle
+/// stays closed.
 #[unsafe(no_mangle)]
 pub extern "C" fn gq_merger_open(
     alloc: Global,
@@ -118,7 +122,9 @@ pub extern "C" fn gq_merger_open(
     open_with!(handle, alloc, opened(alloc, corners, level))
 }
 
-/// Hands in the next bytes of a source.
+/// Pushes the next bytes of a source, and sets `taken` to how many of them were taken.
+///
+/// Returns `MISUSED` if the handle isn't that of a merger or there is no such source; `taken` is then 0.
 #[unsafe(no_mangle)]
 pub extern "C" fn gq_merger_push(
     alloc: Global,
@@ -140,7 +146,9 @@ pub extern "C" fn gq_merger_push(
     )
 }
 
-/// The last unit that was handed in of a source is whole.
+/// Declares the last unit pushed to a source complete.
+///
+/// Returns `MISUSED` if the handle isn't that of a merger or there is no such source.
 #[unsafe(no_mangle)]
 pub extern "C" fn gq_merger_flush(alloc: Global, handle: &mut Handle, source: usize) -> u8
     ensures { Calls Merger handle.old.state handle.new.state result (λ m later. HandsOver m later source with_zeros result) }
@@ -154,7 +162,9 @@ pub extern "C" fn gq_merger_flush(alloc: Global, handle: &mut Handle, source: us
     )
 }
 
-/// There are no more bytes of a source.
+/// Declares that a source has no more bytes.
+///
+/// Returns `MISUSED` if the handle isn't that of a merger or there is no such source.
 #[unsafe(no_mangle)]
 pub extern "C" fn gq_merger_end(alloc: Global, handle: &mut Handle, source: usize) -> u8
     ensures { Calls Merger handle.old.state handle.new.state result (λ m later. HandsOver m later source (λ i h. with_end h) result) }
@@ -168,7 +178,11 @@ pub extern "C" fn gq_merger_end(alloc: Global, handle: &mut Handle, source: usiz
     )
 }
 
-/// Goes on as far as the bytes allow.
+/// Advances as far as the bytes allow.
+///
+/// Returns `DONE` if a picture is to be taken, which `picture` describes, `WAITS` if bytes of source `source` are needed, `ENDED` at the
+/// end, `REFUSED` for a broken rule, `NO_MEMORY`, or `MISUSED` if the handle isn't that of a merger. Only `DONE` changes `picture`, and
+/// only `WAITS` changes `source`.
 #[unsafe(no_mangle)]
 pub extern "C" fn gq_merger_next(
     alloc: Global,
@@ -189,7 +203,10 @@ pub extern "C" fn gq_merger_next(
     )
 }
 
-/// Copies the picture that waits to the front of the room, and gives it up.
+/// Copies the picture that is to be taken to the beginning of `into`, and gives it up.
+///
+/// Returns `NO_ROOM` if `into` is too short, and `MISUSED` if there is no picture or the handle isn't that of a merger; `into` is then
+/// unchanged, and a picture stays.
 #[unsafe(no_mangle)]
 pub extern "C" fn gq_merger_take(alloc: Global, handle: &mut Handle, into: &mut [u8]) -> u8
     ensures call { Calls Merger handle.old.state handle.new.state result (λ m later. TakesPicture m later into.old into.new result) }
@@ -198,7 +215,9 @@ pub extern "C" fn gq_merger_take(alloc: Global, handle: &mut Handle, into: &mut 
     call_on!(handle, alloc, Merger, MISUSED, |mixer| take(mixer, into))
 }
 
-/// The line that tells why it is stopped, and how many bytes it has.
+/// Writes the line that says why it stopped to `into`, cut to its length, and returns the length of the whole line.
+///
+/// Returns 0 if it isn't stopped, if there is no memory for the line, or if the handle isn't that of a merger.
 #[unsafe(no_mangle)]
 pub extern "C" fn gq_merger_line(alloc: Global, handle: &mut Handle, into: &mut [u8]) -> usize
     ensures kept { handle.new.state ≡ handle.old.state }
@@ -208,7 +227,7 @@ pub extern "C" fn gq_merger_line(alloc: Global, handle: &mut Handle, into: &mut 
     call_on!(handle, alloc, Merger, 0, |mixer| line(alloc, mixer, into))
 }
 
-/// Gives back all that a merger holds, or an extractor. The handle is closed then.
+/// Frees all that the handle holds, a merger or an extractor, and closes it.
 #[unsafe(no_mangle)]
 pub extern "C" fn gq_merger_close(alloc: Global, handle: &mut Handle)
     ensures { handle.new.state ≡ None }

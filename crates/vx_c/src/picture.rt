@@ -1,10 +1,10 @@
-//! What is told of a picture.
+//! The description of a picture that C receives.
 ghost use Rattle.std.specs.Prelude.{◌≡◌};
 ghost use Rattle.vx_c.specs.Call.{picture_by};
 
 use vx_pic::Kind;
 
-/// What is told of a picture.
+/// Describes a picture that is to be taken.
 #[repr(C)]
 #[derive(Clone, Copy)]
 pub struct GqPicture {
@@ -16,7 +16,7 @@ pub struct GqPicture {
     pub starts_sequence: bool,
 }
 
-/// What is told of the picture of this number and kind, of which so many bytes are written.
+/// Describes picture `number` of this kind, of which `bytes` bytes are written.
 pub(crate) fn told(number: u64, bytes: usize, kind: Kind) -> GqPicture
     ensures { result ≡ picture_by number bytes kind }
 {

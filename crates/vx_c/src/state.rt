@@ -1,8 +1,8 @@
-//! What a handle is of.
+//! What a handle holds.
 
 use vx_push::{Cutter, Mixer};
 
-/// What a handle is of.
+/// What an open handle holds.
 #[derive(Drop)]
 pub(crate) enum State {
     /// A merger.

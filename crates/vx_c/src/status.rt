@@ -1,31 +1,31 @@
-//! What an export answers.
+//! The statuses that exports return.
 ghost use Rattle.std.specs.Prelude.{◌≡◌, OnSome, IfNone};
 ghost use Rattle.vx_run.specs.Conclusion as conclusion;
 
 use vx_run::Stop;
 
-/// It is done.
+/// The call is done.
 pub(crate) const DONE: u8 = 0;
 
 /// A rule is broken.
 pub(crate) const REFUSED: u8 = 1;
 
-/// The words aren't understood, the handle is closed, or a number is out of its range.
+/// The arguments aren't understood, the handle is closed, or a number is out of its range.
 pub(crate) const MISUSED: u8 = 2;
 
-/// The room doesn't suffice.
+/// The room isn't enough.
 pub(crate) const NO_ROOM: u8 = 3;
 
-/// No memory was found.
+/// There is no memory.
 pub(crate) const NO_MEMORY: u8 = 4;
 
-/// Bytes are wanted.
+/// Bytes are needed.
 pub(crate) const WAITS: u8 = 5;
 
-/// All is done.
+/// There are no more pictures.
 pub(crate) const ENDED: u8 = 6;
 
-/// The program's status where it is stopped so.
+/// Returns the program's status if it stops for this reason.
 pub(crate) fn status_of(stop: Stop) -> u8
     ensures { result ≡ conclusion.status_of stop }
 {
@@ -37,7 +37,7 @@ pub(crate) fn status_of(stop: Stop) -> u8
     }
 }
 
-/// What is answered where a picture that waits was to be copied, by how many bytes were: none where the room doesn't suffice.
+/// Returns the status of a copy: `NO_ROOM` if nothing was copied.
 pub(crate) fn took(taken: Option<usize>) -> u8
     ensures done { OnSome taken (result ≡ DONE) }
     ensures short { IfNone taken (result ≡ NO_ROOM) }

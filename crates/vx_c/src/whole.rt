@@ -1,4 +1,4 @@
-//! The program's words over streams in memory.
+//! The program's commands over streams in memory.
 ghost use Rattle.std.specs.Prelude.{◌≡◌, ◌≢◌, ◌≤◌, ◌⊎◌, ◌↔◌, [], length, take, IfOk, IfSome, IfNone};
 ghost use Rattle.std.specs.List.{sum};
 ghost use Rattle.vx_io.specs.Memory.{fresh_plan};
@@ -12,7 +12,7 @@ use std::alloc::{AllocError, Global};
 use vx_io::{MemorySink, Source};
 use vx_run::{file_count, run, status_2_is_exact};
 
-/// What a run of the words answered and wrote.
+/// The status of a run, and what it wrote.
 #[derive(Drop)]
 struct Ran {
     status: u8,
@@ -20,14 +20,14 @@ struct Ran {
     err: MemorySink,
 }
 
-/// A sink in memory with this room.
+/// Makes a sink in memory with `room` bytes of room.
 fn sink(alloc: Global, room: usize) -> Result<MemorySink, AllocError>
     ensures { IfOk result (λ made. made ≡ record { taken = []; room = room; plan = fresh_plan [] [] }) }
 {
     MemorySink::new(alloc, room, Vec::new(alloc), Vec::new(alloc))
 }
 
-/// Runs the words over the streams; none where they can't be run.
+/// Runs the command over the streams; `None` if the arguments are misused.
 #[tactic(auto, using(crate::proofs::Streams::sized, crate::proofs::Streams::unlike))]
 fn run_in_memory(
     alloc: Global,
@@ -63,9 +63,12 @@ fn run_in_memory(
     Ok(Some(Ran { status, out, err }))
 }
 
-/// Does what the words ask for, as the program does, over streams in memory in place of files. What is told is the line of the status.
-/// What is written is what `run` says of the words and the streams; no clause tells that again, since a stream's bytes are known to no
-/// clause behind its box.
+/// Runs one of the program's commands on streams in memory. `err` receives the status line, `out` the output.
+///
+/// Never writes past the room given. `MISUSED` is returned only if the arguments aren't valid UTF-8 or not understood, the streams aren't
+/// as many as the arguments name, or the lengths don't add up to the bytes; then always, except for lack of memory. The contract covers
+/// the status line and all lengths, not the content of `out`: that is `run`'s contract, which can't be restated here because the sources
+/// are boxed.
 #[tactic(auto, using(crate::proofs::Telling::why_misused, crate::proofs::Telling::why_no_memory))]
 #[unsafe(no_mangle)]
 pub extern "C" fn gq_run(

@@ -1,15 +1,15 @@
-//! Corners that a mixer may have.
+//! The corners that a mixer may have.
 ghost use Rattle.std.specs.Prelude.{◌↔◌, IsTrue};
 ghost use Rattle.vx_frame.specs.Corners.{AreCorners, IsCorner};
 
 use vx_merge::Corner;
 
-/// How many corners there may be, and below what their places are.
+/// The most corners, and the first coordinate that is too high.
 const MOST_CORNERS: usize = 64;
 
 const PLACES: u32 = 16_384;
 
-/// Whether a region of a frame may have this corner.
+/// Returns whether a region of a frame may have this corner.
 fn is_corner(corner: Corner) -> bool
     ensures { IsTrue result ↔ IsCorner corner }
 {
@@ -19,7 +19,7 @@ fn is_corner(corner: Corner) -> bool
     corner.y < PLACES
 }
 
-/// Whether a mixer may have these corners: one to 64 of them, each in less than 16,384 luma samples across and down.
+/// Returns whether a mixer may have these corners: 1 to 64, with coordinates below 16,384 luma samples.
 pub fn are_corners(corners: &[Corner]) -> bool
     ensures { IsTrue result ↔ AreCorners corners.now }
 {

@@ -1,4 +1,4 @@
-//! An extraction whose source is handed in as it comes.
+//! An extraction from a source whose bytes are pushed as they arrive.
 ghost use Rattle.std.specs.Prelude.{◌≡◌, List, cond, nat_le, Some, None, Ok, Err, IfErr, OnOk};
 ghost use Rattle.vx_pic.specs.Written.{Plan};
 ghost use Rattle.vx_extract.specs.Extracting.{Stands, SameTask};
@@ -14,21 +14,23 @@ use vx_io::GrowSink;
 use vx_pic::{Kind, Picture};
 use vx_run::{Place, Stop, Task, pictures_have_slices, some_picture};
 
-/// What a cutter has come to.
+/// Where a cutter stands in its extraction.
 #[derive(Clone, Copy, Debug, PartialEq, Eq)]
 pub enum Cut {
-    /// A picture of the subpicture, which is to be taken.
+    /// An extracted picture is to be taken.
     Picture,
-    /// It waits for bytes.
+    /// The source needs bytes.
     Waits,
     /// The source has ended, and there are no more pictures.
     Ended,
-    /// It is stopped, and there are no more pictures.
+    /// The extraction is stopped, and there are no more pictures.
     Stopped(Stop),
 }
 
-/// Extracts a subpicture of a byte stream that is handed in as it comes. It holds one picture of it at most, and goes on once that
-/// was taken.
+/// Extracts a subpicture of a byte stream that is pushed as it arrives, and holds at most one picture of it until it is taken.
+///
+/// It writes what `extract` writes of the same stream. After the end, a refusal or lack of memory [`next`](Cutter::next) returns that
+/// again.
 #[derive(Drop)]
 pub struct Cutter {
     alloc: Global,
@@ -39,7 +41,7 @@ pub struct Cutter {
     pictures: u64,
     // The latest of them, until it is taken.
     store: Store,
-    // What it came to in the end.
+    // How the extraction ended, once it has.
     end: Option<Cut>,
 }
 
@@ -64,7 +66,7 @@ fn end_behind(pictures: u64) -> Cut
     }
 }
 
-/// Whether a picture is held, behind so many others; else what keeps it from being cut.
+/// Checks that the intake holds a picture; the error is what keeps it from being written. `pictures` is the number of pictures before.
 fn look(intake: &Intake, pictures: u64) -> Result<(), Cut>
     ensures holds { OnOk result (intake.now.state ≡ AtPicture) }
     ensures halts { IfErr result (HaltsBy intake.now.state pictures) }
@@ -84,7 +86,7 @@ fn look(intake: &Intake, pictures: u64) -> Result<(), Cut>
     }
 }
 
-/// What stops a cutter where the n-th picture isn't written. A sink in memory fails for want of it alone.
+/// Returns why a cutter stops if picture `n` isn't written. A sink in memory fails only for lack of it.
 fn stop_of_cut(error: WriteError, n: u64) -> Stop
     ensures { result ≡ stop_by error n }
 {
@@ -94,7 +96,7 @@ fn stop_of_cut(error: WriteError, n: u64) -> Stop
     }
 }
 
-/// What a picture is, where it is kept: where its TemporalId is at most `tid`.
+/// Returns the kind of a picture that is kept: its TemporalId is at most `tid`.
 fn kept_kind(kind: Kind, tid: u8) -> Option<Kind>
     ensures { result ≡ cond (nat_le kind.temporal_id tid) (Some kind) None }
 {
@@ -105,8 +107,7 @@ fn kept_kind(kind: Kind, tid: u8) -> Option<Kind>
     }
 }
 
-/// Writes the subpicture of the picture that is held, behind so many others, or leaves it out; and answers what it is, if it is
-/// kept.
+/// Writes the subpicture of `picture` and returns the picture's kind, or leaves it out. `pictures` is the number of pictures before.
 fn cut_picture(
     alloc: Global,
     extractor: &mut Extractor,
@@ -126,7 +127,7 @@ fn cut_picture(
     }
 }
 
-/// What is kept of an answer: the end.
+/// Returns the end, if it is one.
 fn end_of(cut: Cut) -> Option<Cut>
     ensures { result ≡ end_by cut }
 {
@@ -151,7 +152,7 @@ impl Cutter {
     ghost use Rattle.vx_push.specs.Cutting.{HasCut, Answers};
     ghost use Rattle.vx_push.specs.inner.Cutting.{StepsTo, units_left};
 
-    /// A cutter that does this task.
+    /// Makes a cutter for this task.
     pub fn new(alloc: Global, task: Task) -> Result<Cutter, AllocError>
         requires { task.tid ≤ 6 }
         ensures cut { IfOk result (λ c. (R : Readers) → HasCut R task c nothing [] []) }
@@ -169,8 +170,9 @@ impl Cutter {
         })
     }
 
-    /// Hands in the first bytes of a piece, at most 65,536 of them, and answers how many. None are taken while a picture is held that
-    /// wasn't cut yet, and behind the end, a refusal or want of memory.
+    /// Pushes a prefix of `piece`, at most 65,536 bytes, and returns its length.
+    ///
+    /// Returns 0 while a picture is held that isn't written yet, and after the end, a refusal or lack of memory.
     pub fn push(&mut self, piece: &[u8]) -> usize
         ensures cut { (R : Readers) → AreOfH266 R → (t : Asked) (h : Handed) (ps : List StreamPicture) (done : List Plan)
             → HasCut R t self.old h ps done → HasCut R t self.new (with_more h (take result piece.now)) ps done }
@@ -184,7 +186,7 @@ impl Cutter {
         self.intake.push(piece)
     }
 
-    /// The last unit that was handed in is whole: three zero bytes are handed in behind it.
+    /// Declares the last unit pushed complete, as [`Intake::flush`] does.
     pub fn flush(&mut self)
         ensures cut { (R : Readers) → AreOfH266 R → (t : Asked) (h : Handed) (ps : List StreamPicture) (done : List Plan)
             → HasCut R t self.old h ps done
@@ -193,7 +195,7 @@ impl Cutter {
         self.intake.flush();
     }
 
-    /// There are no more bytes.
+    /// Declares that there are no more bytes, as [`Intake::end`] does.
     pub fn end(&mut self)
         ensures cut { (R : Readers) → AreOfH266 R → (t : Asked) (h : Handed) (ps : List StreamPicture) (done : List Plan)
             → HasCut R t self.old h ps done → HasCut R t self.new (with_end h) ps done }
@@ -201,7 +203,7 @@ impl Cutter {
         self.intake.end();
     }
 
-    /// Writes the next picture or leaves it out; and answers what it is, if it is kept.
+    /// Writes the next picture and returns its kind if it is kept; otherwise leaves it out.
     fn step(&mut self) -> Result<Option<Kind>, Cut>
         ensures answer { self.old.held ≡ None → self.old.end ≡ None → (R : Readers) → AreOfH266 R → (t : Asked) (h : Handed)
             (ps : List StreamPicture) (done : List Plan) → HasCut R t self.old h ps done → StepsTo R t self.new h ps done result }
@@ -224,8 +226,10 @@ impl Cutter {
         Ok(kept)
     }
 
-    /// Comes to the next picture that is kept, which is answered until it is taken; or to what keeps it from that. The end is
-    /// answered again from then on.
+    /// Advances to the next picture that is kept.
+    ///
+    /// Returns [`Cut::Picture`] until that picture is taken; [`Cut::Waits`] if bytes are needed; [`Cut::Ended`] or [`Cut::Stopped`] at
+    /// the end, and from then on.
     pub fn next(&mut self) -> Cut
         ensures answer { self.old.held ≡ None → self.old.end ≡ None → (R : Readers) → AreOfH266 R → (t : Asked) (h : Handed)
             (ps : List StreamPicture) (done : List Plan) → HasCut R t self.old h ps done → Answers R t self.new h ps done result }
@@ -253,7 +257,7 @@ impl Cutter {
         }
     }
 
-    /// The picture that is to be taken.
+    /// Returns the picture that is to be taken.
     pub fn picture(&self) -> Option<WrittenPicture>
         ensures some { IfSome result (λ p. (self.now.held ≡ Some p.kind) × (p.number ≡ self.now.pictures - 1) × (p.bytes ≡ length self.now.cut)) }
         ensures none { IfNone result (self.now.held ≡ None) }
@@ -261,15 +265,16 @@ impl Cutter {
         self.store.picture(self.pictures.saturating_sub(1))
     }
 
-    /// What it came to in the end, if it did.
+    /// Returns how the extraction ended, if it has.
     pub fn ending(&self) -> Option<Cut>
         ensures { result ≡ self.now.end }
     {
         self.end
     }
 
-    /// Takes the picture: copies its bytes to the front of `into`, and answers how many they are. None where there is none, or
-    /// where `into` has too little room; then nothing changes.
+    /// Takes the picture: copies its bytes to the beginning of `into`, and returns how many they are.
+    ///
+    /// Returns `None` and changes nothing if there is no picture, or if `into` is too short.
     pub fn take(&mut self, into: &mut [u8]) -> Option<usize>
         ensures taken { IfSome result (λ n. (n ≡ length self.old.cut) × (into.new ≡ self.old.cut ++ drop n into.old)) }
         ensures went { OnSome result (self.new ≡ record self.old { held = None; cut = [] }) }

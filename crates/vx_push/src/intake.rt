@@ -1,4 +1,4 @@
-//! A byte stream that is handed in as it comes, and its pictures.
+//! A byte stream that is pushed as it arrives, and its pictures.
 
 use crate::seek::{give_end, give_zeros, go_on, seek, waits};
 use std::alloc::{AllocError, Global};
@@ -7,28 +7,30 @@ use vx_assemble::Feed;
 use vx_bits::Refusal;
 use vx_pic::{Lender, Picture};
 
-/// What an intake has come to.
+/// Where an intake stands in its stream.
 #[derive(Clone, Copy, Debug, PartialEq, Eq)]
 pub enum State {
-    /// No further picture is seen: it waits for bytes.
+    /// It waits for bytes: those pushed so far show no further picture.
     Waits,
-    /// A picture, which it lends.
+    /// It lends a picture.
     Picture,
-    /// The end of the stream.
+    /// The stream has ended.
     Ended,
-    /// The stream is refused behind so many units, with the first rule that it breaks.
+    /// The stream breaks this rule, after `units` units.
     Refused { refusal: Refusal, units: u64 },
     /// Memory ran out.
     NoMemory,
 }
 
-/// Takes a byte stream as it is handed in, and comes to one picture after another. Bytes are taken only where it waits for
-/// them, so that what it holds is bounded.
+/// Takes a byte stream as it is pushed, and lends its pictures one after another.
+///
+/// It takes bytes only while it waits for them, and holds at most 2^25 + 2^23 + 65,538 of them. What it finds depends only on the bytes
+/// pushed, not on how they are cut. After the end, a refusal or lack of memory it takes nothing more.
 #[derive(Drop)]
 pub struct Intake {
     feed: Feed,
     state: State,
-    // Whether zeros were handed in behind the picture that waits, and whether there are no more bytes.
+    // Whether zeros were pushed after the picture that is lent, and whether there are no more bytes.
     flushed: bool,
     ended: bool,
 }
@@ -54,7 +56,7 @@ impl Intake {
     ghost use Rattle.vx_push.specs.Comes.{HasCome, ComesTo, ComesNext, taken_at_once, bytes_held};
     ghost use Rattle.vx_push.specs.declared.intake.State.TheVariants.{Waits, Picture as Holds, NoMemory};
 
-    /// An intake to which nothing was handed in. It waits.
+    /// Makes an intake that waits, to which nothing was pushed.
     pub fn new(alloc: Global) -> Result<Intake, AllocError>
         ensures comes { IfOk result (λ i. (R : Readers) → HasCome R i nothing []) }
         ensures waits { IfOk result (λ i. i.state ≡ Waits) }
@@ -69,7 +71,7 @@ impl Intake {
         })
     }
 
-    /// What it has come to.
+    /// Returns where it stands.
     pub fn state(&self) -> State
         ensures state { result ≡ self.now.state }
         ensures told { (R : Readers) (h : Handed) (ps : List StreamPicture) → HasCome R self.now h ps → ComesTo R h ps result }
@@ -78,8 +80,10 @@ impl Intake {
         self.state
     }
 
-    /// Takes the first bytes of a piece where it waits, at most 65,536 of them, and answers how many; then it goes on. Where it
-    /// doesn't wait, it takes none, and so behind the end. None are taken either where there is no memory for them.
+    /// Takes a prefix of `piece`, advances to the next picture, and returns how many bytes it took.
+    ///
+    /// While it waits, these are at most 65,536, and at most 2^40 + 1 over all calls. Otherwise it returns 0 and changes nothing. It also
+    /// returns 0 if there is no memory for the bytes; the state is then [`State::NoMemory`].
     pub fn push(&mut self, piece: &[u8]) -> usize
         ensures comes { self.old.state ≡ Waits → (R : Readers) → AreOfH266 R → (h : Handed) (ps : List StreamPicture)
             → HasCome R self.old h ps → ComesNext R self.new (with_more h (take result piece.now)) ps self.new.state }
@@ -105,8 +109,10 @@ impl Intake {
         }
     }
 
-    /// The last unit that was handed in is whole: three zero bytes are handed in behind it. Where a picture is held they wait
-    /// until it was passed, and are handed in once however often this is said. Behind the end it does nothing.
+    /// Declares the last unit pushed complete: appends three zero bytes (B.2.1), and advances.
+    ///
+    /// While a picture is lent, the zeros are kept until it is passed, once however often this is called. After [`end`](Intake::end), a
+    /// refusal or lack of memory it does nothing.
     pub fn flush(&mut self)
         ensures comes { self.old.state ≡ Waits → (R : Readers) → AreOfH266 R → (h : Handed) (ps : List StreamPicture)
             → HasCome R self.old h ps → ComesNext R self.new (with_more h zeros) ps self.new.state }
@@ -125,7 +131,7 @@ impl Intake {
         }
     }
 
-    /// There are no more bytes. Where a picture is held, the end waits until it was passed.
+    /// Declares that there are no more bytes, and advances. While a picture is lent, the end is kept until it is passed.
     pub fn end(&mut self)
         ensures comes { self.old.state ≡ Waits → (R : Readers) → AreOfH266 R → (h : Handed) (ps : List StreamPicture)
             → HasCome R self.old h ps → ComesNext R self.new (with_end h) ps self.new.state }
@@ -145,7 +151,7 @@ impl Intake {
         }
     }
 
-    /// Goes on behind the picture that it holds, if it holds one.
+    /// Gives up the picture that it lends, if it lends one, and advances to the next.
     pub fn pass(&mut self)
         ensures comes { self.old.state ≡ Holds → (R : Readers) → AreOfH266 R → (h : Handed) (ps : List StreamPicture)
             → HasCome R self.old h ps → ComesNext R self.new h ps self.new.state }
@@ -159,7 +165,7 @@ impl Intake {
         }
     }
 
-    /// The picture that it holds. It takes no memory.
+    /// Returns the picture that it lends. Takes no memory.
     pub fn picture(&self) -> Picture<'_>
         requires { self.now.state ≡ Holds }
         ensures lent { result ≡ lent_by self.now.feed.assembler }

@@ -1,4 +1,4 @@
-//! A merge whose sources are handed in as they come.
+//! A merge of sources whose bytes are pushed as they arrive.
 ghost use Rattle.std.specs.Prelude.{◌≡◌, ℕ, ◌+◌, ◌-◌, ◌^◌, ◌<◌, ◌≤◌, All, List, [], length, vec_len, None, Ok, Err, IfOk, IfErr, OnOk};
 ghost use Rattle.vx_pic.specs.Rules.{Readers};
 ghost use Rattle.vx_pic.specs.H266.{AreOfH266};
@@ -19,16 +19,16 @@ use vx_merge::{Corner, Merger, WriteError};
 use vx_pic::{Kind, Lender};
 use vx_run::{Place, Stop, all_go_on, merge_ends_once};
 
-/// What a mixer has come to.
+/// Where a mixer stands in its merge.
 #[derive(Clone, Copy, Debug, PartialEq, Eq)]
 pub enum Mixed {
-    /// A merged picture, which is to be taken.
+    /// A merged picture is to be taken.
     Picture,
-    /// This source waits for bytes, and none before it does.
+    /// This source needs bytes, and no earlier source does.
     Waits(u16),
     /// All sources have ended, and there are no more pictures.
     Ended,
-    /// It is stopped, and there are no more pictures.
+    /// The merge is stopped, and there are no more pictures.
     Stopped(Stop),
 }
 
@@ -36,20 +36,22 @@ pub enum Mixed {
 #[derive(Clone, Copy, Debug, PartialEq, Eq)]
 pub struct NoSource;
 
-/// Merges the pictures of byte streams that are handed in as they come. It holds one merged picture at most, and goes on once that was
-/// taken.
+/// Merges byte streams that are pushed as they arrive, and holds at most one merged picture until it is taken.
+///
+/// It merges what `merge` merges of the same streams, by the law [`mixed_is_merged`]. After the end, a refusal or lack of memory
+/// [`next`](Mixer::next) returns that again.
 #[derive(Drop)]
 pub struct Mixer {
     alloc: Global,
     merger: Merger,
     intakes: Vec<Intake>,
-    // Which of them have ended, in the round that was looked at last.
+    // Which of the sources had ended in the latest round.
     ended: Vec<bool>,
-    // How many rounds were merged.
+    // How many rounds are merged.
     rounds: u64,
     // The picture of the latest of them, until it is taken.
     store: Store,
-    // What it came to in the end.
+    // How the merge ended, once it has.
     end: Option<Mixed>,
 }
 
@@ -65,7 +67,7 @@ impl Model for Mixer {
     ghost invariant = { λ m. AreCorners m.merger.corners × (vec_len m.intakes ≡ length m.merger.corners) × (vec_len m.ended ≡ length m.merger.corners) };
 }
 
-/// An intake for each of so many sources.
+/// Makes `count` intakes, to which nothing was pushed.
 fn intakes_for(alloc: Global, count: usize) -> Result<Vec<Intake>, AllocError>
     ensures count { IfOk result (λ intakes. vec_len intakes ≡ count) }
     ensures new { IfOk result (λ intakes. AreNew intakes.items) }
@@ -78,7 +80,7 @@ fn intakes_for(alloc: Global, count: usize) -> Result<Vec<Intake>, AllocError>
     Ok(intakes)
 }
 
-/// Whether source `k` has ended; else it holds a picture, or this keeps a round from being merged.
+/// Returns whether source `k` has ended or holds a picture; the error is what keeps a round from being merged.
 fn has_ended(state: State, k: u16) -> Result<bool, Mixed>
     ensures so { IfOk result (λ ended. state ≡ mark_of ended) }
     ensures halts { IfErr result (HaltsBy state k) }
@@ -112,7 +114,9 @@ fn look_at_each(intakes: &[Intake], ended: &mut Vec<bool>) -> Result<(), Mixed>
     Ok(())
 }
 
-/// Whether each source holds a picture, behind so many rounds; or what keeps the next round from being merged.
+/// Checks that each source holds a picture; the error is what keeps the next round from being merged.
+///
+/// `rounds` is the number of rounds before.
 fn look(intakes: &[Intake], ended: &mut Vec<bool>, rounds: u64) -> Result<(), Mixed>
     requires some { 0 < length intakes.now }
     requires few { length intakes.now ≤ 64 }
@@ -128,7 +132,7 @@ fn look(intakes: &[Intake], ended: &mut Vec<bool>, rounds: u64) -> Result<(), Mi
     }
 }
 
-/// What is kept of an answer: the end.
+/// Returns the end, if it is one.
 fn end_of(mixed: Mixed) -> Option<Mixed>
     ensures { result ≡ end_by mixed }
 {
@@ -138,7 +142,7 @@ fn end_of(mixed: Mixed) -> Option<Mixed>
     }
 }
 
-/// Merges the pictures that the intakes hold, behind so many rounds, and answers what kind of picture that makes.
+/// Merges the pictures that the intakes lend, and returns the kind of the merged picture. `rounds` is the number of rounds before.
 fn merge_round(
     alloc: Global,
     merger: &mut Merger,
@@ -160,7 +164,7 @@ fn merge_round(
     }
 }
 
-/// What stops a mixer where round `n` isn't merged. A sink in memory fails for want of it alone.
+/// Returns why a mixer stops if round `n` isn't merged. A sink in memory fails only for lack of it.
 fn stop_of_merge(error: WriteError, n: u64) -> Stop
     ensures { result ≡ stop_by error n }
 {
@@ -170,7 +174,7 @@ fn stop_of_merge(error: WriteError, n: u64) -> Stop
     }
 }
 
-/// Goes on behind the picture that each intake holds.
+/// Passes the picture that each intake lends.
 fn pass_each(intakes: &mut Vec<Intake>)
     ensures { HavePassed intakes.old.items intakes.new.items }
 {
@@ -192,8 +196,9 @@ impl Mixer {
     ghost use Rattle.vx_push.specs.declared.mixer.Mixed.TheVariants.{Picture as ToPicture, Waits as ToWait};
     ghost use Rattle.vx_push.specs.Mixing.{HasMixed, Answers, HandsIn, Takes};
 
-    /// A mixer of a source for each of these upper left corners, in luma samples, of the region that its pictures are; with a level of its own
-    /// or the sources' highest.
+    /// Makes a mixer of one source for each corner, the upper left corner of its region in luma samples.
+    ///
+    /// `level` is the level to write; `None` means the highest of the sources'.
     pub fn new(alloc: Global, corners: &[Corner], level: Option<u8>) -> Result<Mixer, AllocError>
         requires { AreCorners corners.now }
         ensures task { IfOk result (λ m. (m.merger.corners ≡ corners.now) × (m.merger.level ≡ level)) }
@@ -214,12 +219,11 @@ impl Mixer {
         })
     }
 
-    /// Hands in the first bytes of a piece of a source, at most 65,536 of them, and answers how many. None are taken while the source
-    /// holds a picture that isn't merged yet, and behind its end, its refusal or want of memory.
+    /// Pushes a prefix of `piece` to a source, at most 65,536 bytes, and returns its length.
     ///
-    /// # Errors
+    /// Returns 0 while the source holds a picture that isn't merged yet, and after its end, its refusal or lack of memory.
     ///
-    /// There is no such source.
+    /// *Errors:* [`NoSource`]; nothing changes.
     pub fn push(&mut self, source: usize, piece: &[u8]) -> Result<usize, NoSource>
         ensures handed { IfOk result (λ n. HandsIn self.old self.new source (λ i h. with_more h (take n piece.now))) }
         ensures count { IfOk result (λ n. (n ≤ length piece.now) × ((i later : Intaking) → slice_get self.old.intakes source ≡ Some i
@@ -234,11 +238,9 @@ impl Mixer {
         Ok(self.intakes[source].push(piece))
     }
 
-    /// The last unit that was handed in of a source is whole: three zero bytes are handed in behind it.
+    /// Declares the last unit pushed to a source complete, as [`Intake::flush`] does.
     ///
-    /// # Errors
-    ///
-    /// There is no such source.
+    /// *Errors:* [`NoSource`]; nothing changes.
     pub fn flush(&mut self, source: usize) -> Result<(), NoSource>
         ensures handed { OnOk result (HandsIn self.old self.new source with_zeros) }
         ensures wrong { OnErr result ((length self.old.intakes ≤ source) × (self.new ≡ self.old)) }
@@ -250,11 +252,9 @@ impl Mixer {
         Ok(())
     }
 
-    /// There are no more bytes of a source.
+    /// Declares that a source has no more bytes, as [`Intake::end`] does.
     ///
-    /// # Errors
-    ///
-    /// There is no such source.
+    /// *Errors:* [`NoSource`]; nothing changes.
     pub fn end(&mut self, source: usize) -> Result<(), NoSource>
         ensures handed { OnOk result (HandsIn self.old self.new source (λ i h. with_end h)) }
         ensures wrong { OnErr result ((length self.old.intakes ≤ source) × (self.new ≡ self.old)) }
@@ -266,8 +266,11 @@ impl Mixer {
         Ok(())
     }
 
-    /// Comes to the next merged picture, which is answered until it is taken; or to what keeps it from that: the sources are gone on with in
-    /// order, and where one waits, those behind it aren't looked at. The end is answered again from then on.
+    /// Advances to the next merged picture.
+    ///
+    /// Returns [`Mixed::Picture`] until that picture is taken; [`Mixed::Waits`] if a source needs bytes and no earlier source does;
+    /// [`Mixed::Ended`] or [`Mixed::Stopped`] at the end, and from then on. Sources are advanced in order, so a refusal of a later source
+    /// is reported only when no earlier one waits.
     pub fn next(&mut self) -> Mixed
         ensures answer { self.old.held ≡ None → self.old.end ≡ None → (R : Readers) → AreOfH266 R → (given : List Handed) (done : List Plan)
             → HasMixed R self.old given done → Answers R self.new given done result }
@@ -307,7 +310,7 @@ impl Mixer {
         }
     }
 
-    /// The merged picture that is to be taken.
+    /// Returns the merged picture that is to be taken.
     pub fn picture(&self) -> Option<WrittenPicture>
         ensures some { IfSome result (λ p. (self.now.held ≡ Some p.kind) × (p.number ≡ self.now.rounds - 1) × (p.bytes ≡ length self.now.merged)) }
         ensures none { IfNone result (self.now.held ≡ None) }
@@ -315,15 +318,16 @@ impl Mixer {
         self.store.picture(self.rounds.saturating_sub(1))
     }
 
-    /// What it came to in the end, if it did.
+    /// Returns how the merge ended, if it has.
     pub fn ending(&self) -> Option<Mixed>
         ensures { result ≡ self.now.end }
     {
         self.end
     }
 
-    /// Takes the merged picture: copies its bytes to the front of `into`, and answers how many they are. None where there is none, or
-    /// where `into` has too little room; then nothing changes.
+    /// Takes the merged picture: copies its bytes to the beginning of `into`, and returns how many they are.
+    ///
+    /// Returns `None` and changes nothing if there is no picture, or if `into` is too short.
     pub fn take(&mut self, into: &mut [u8]) -> Option<usize>
         ensures taken { IfSome result (λ n. (n ≡ length self.old.merged) × (into.new ≡ self.old.merged ++ drop n into.old)) }
         ensures went { OnSome result (self.new ≡ record self.old { held = None; merged = [] }) }
@@ -335,7 +339,9 @@ impl Mixer {
     }
 }
 
-/// A mixer that came to the end of a merge has merged what `merge` writes of the same streams, however they were handed in.
+/// If a mixer came to the end of a merge, then `merge` of the same streams ends alike after the same rounds.
+///
+/// It holds however the streams were pushed. A mixer that stopped for lack of memory isn't at the end.
 pub fn mixed_is_merged()
     ensures { MixedIsMerged }
 {

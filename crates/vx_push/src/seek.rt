@@ -1,4 +1,4 @@
-//! What a feed comes to in the bytes that it took.
+//! Advancing a feed in the bytes that were pushed.
 ghost use Rattle.std.specs.Prelude.{◌≡◌, ℕ, ◌+◌, ◌^◌, ◌<◌, ◌≤◌, ◌++◌, Bool, false, List, Some, None, take, IfSome, IsTrue};
 ghost use Rattle.vx_annexb.specs.ByteStream.{UnitPlace};
 ghost use Rattle.vx_annexb.specs.Held.{IsSought};
@@ -16,7 +16,7 @@ ghost use Rattle.vx_push.specs.inner.Comes.{HasTaken, IsGoing, SeeksTo, StepsTo,
 use crate::intake::State;
 use vx_assemble::{Accepted, Feed, FeedFault, Taken};
 
-/// Goes on until a picture is done, or no further unit is seen, or to the end.
+/// Advances to the next completed picture, to the end, or until the bytes show no further unit.
 pub(crate) fn seek(feed: &mut Feed) -> State
     ensures comes { (R : Readers) → AreOfH266 R → (g : List ℕ) (ps : List StreamPicture) → HasTaken R feed.old g ps
         → SeeksTo R g ps feed.new result }
@@ -34,7 +34,7 @@ pub(crate) fn seek(feed: &mut Feed) -> State
     }
 }
 
-/// Takes the next unit, and answers what that comes to; None where it is one that completes no picture.
+/// Takes the next unit, and returns the state after it; `None` if it completes no picture.
 fn step(feed: &mut Feed) -> Option<State>
     ensures answer { (R : Readers) → AreOfH266 R → (g : List ℕ) (ps : List StreamPicture) → HasTaken R feed.old g ps
         → StepsTo R g ps feed.new result }
@@ -53,7 +53,7 @@ fn step(feed: &mut Feed) -> Option<State>
     }
 }
 
-/// What a feed came to that took this; None where it is a unit that completes no picture.
+/// Returns the state of a feed that took this; `None` for a unit that completes no picture.
 fn state_of(feed: &Feed, taken: Taken) -> Option<State>
     requires { IsToldBy feed.now.assembler (Some taken) }
     ensures state { result ≡ state_by taken }
@@ -73,7 +73,7 @@ fn state_of(feed: &Feed, taken: Taken) -> Option<State>
     }
 }
 
-/// What a feed came to that takes no unit behind so many.
+/// Returns the state of a feed that stops after this many units.
 fn stopped(fault: FeedFault, units: u64) -> State
     ensures { result ≡ stopped_by fault units }
 {
@@ -83,7 +83,7 @@ fn stopped(fault: FeedFault, units: u64) -> State
     }
 }
 
-/// Hands in the zeros behind a whole unit, and goes on.
+/// Pushes the three zeros after a complete unit, and advances.
 pub(crate) fn give_zeros(feed: &mut Feed) -> State
     requires open { IsOpen feed.old }
     requires sought { IsSought feed.old.reader.splitter }
@@ -103,7 +103,7 @@ pub(crate) fn give_zeros(feed: &mut Feed) -> State
     }
 }
 
-/// Says that there are no more bytes, and goes on.
+/// Declares that there are no more bytes, and advances.
 pub(crate) fn give_end(feed: &mut Feed) -> State
     requires { IsOpen feed.old }
     ensures comes { (R : Readers) → AreOfH266 R → (g : List ℕ) (ps : List StreamPicture) → HasTaken R feed.old g ps
@@ -120,7 +120,7 @@ pub(crate) fn give_end(feed: &mut Feed) -> State
     seek(feed)
 }
 
-/// Goes on behind a picture: in what was read, and where that is all, in the zeros and to the end that were handed in behind it.
+/// Advances past a picture: in the bytes read, and if these are used up, through the zeros and the end that were declared after it.
 pub(crate) fn go_on(feed: &mut Feed, flushed: &mut bool, ended: bool) -> State
     ensures comes { (R : Readers) → AreOfH266 R → (h : Handed) (ps : List StreamPicture) → IsGoing R (intaking feed.old Holds flushed.old ended) h ps
         → StepsBehind R (intaking feed.new result flushed.new ended) h ps result }
@@ -145,7 +145,7 @@ pub(crate) fn go_on(feed: &mut Feed, flushed: &mut bool, ended: bool) -> State
     State::Waits
 }
 
-/// Hands in the zeros that are owed, if they are, and goes on.
+/// Pushes the zeros that were declared, if they were, and advances.
 fn give_owed(feed: &mut Feed, flushed: &mut bool) -> State
     requires open { IsOpen feed.old }
     requires sought { IsSought feed.old.reader.splitter }
@@ -166,7 +166,7 @@ fn give_owed(feed: &mut Feed, flushed: &mut bool) -> State
     give_zeros(feed)
 }
 
-/// Whether it is the state of one that waits for bytes.
+/// Returns whether it is the state of an intake that waits.
 pub(crate) fn waits(state: State) -> bool
     ensures yes { IsTrue result → state ≡ Waits }
     ensures no { ¬ IsTrue result → state ≡ Waits → ⊥ }

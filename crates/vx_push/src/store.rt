@@ -1,22 +1,22 @@
-//! A picture that was written, until it is taken.
+//! A picture of output, until it is taken.
 ghost use Rattle.std.specs.Prelude.{◌≡◌, ◌⊎◌, ◌<◌, ◌++◌, [], length, drop, Some, None, IfSome, OnSome, IfNone};
 
 use std::alloc::Global;
 use vx_io::GrowSink;
 use vx_pic::Kind;
 
-/// A picture that was written.
+/// A picture of output: its number, its length and its kind.
 #[derive(Clone, Copy, Debug, PartialEq, Eq)]
 pub struct WrittenPicture {
-    /// Its number, from 0: among the rounds of a merge, or among the pictures of a source, whether or not those are kept.
+    /// Its number, from 0: among the rounds of a merge, or among all pictures of an extraction's source, kept or not.
     pub number: u64,
-    /// How many bytes are written of it.
+    /// How many bytes it has.
     pub bytes: usize,
-    /// What it is among the pictures of its stream.
+    /// Its kind in its stream.
     pub kind: Kind,
 }
 
-/// What is written of a picture, and what it is, until it is taken.
+/// Holds a picture of output and its kind until the picture is taken.
 #[derive(Drop)]
 pub(crate) struct Store {
     pub(crate) alloc: Global,
@@ -25,7 +25,7 @@ pub(crate) struct Store {
 }
 
 impl Store {
-    /// One that holds no picture.
+    /// Makes a store that holds no picture.
     pub(crate) fn new(alloc: Global) -> Store
         ensures written { result.written.taken ≡ [] }
         ensures held { result.held ≡ None }
@@ -37,7 +37,7 @@ impl Store {
         }
     }
 
-    /// The picture that it holds, of this number.
+    /// Returns the picture that it holds, under this number.
     pub(crate) fn picture(&self, number: u64) -> Option<WrittenPicture>
         ensures some { IfSome result (λ p. (self.now.held ≡ Some p.kind) × (p.number ≡ number) × (p.bytes ≡ length self.now.written.taken)) }
         ensures none { IfNone result (self.now.held ≡ None) }
@@ -50,8 +50,9 @@ impl Store {
         })
     }
 
-    /// Copies the bytes of the picture to the front of `into`, answers how many they are, and holds it no longer. None where it holds
-    /// none, or where `into` has too little room; then nothing changes.
+    /// Copies the picture's bytes to the beginning of `into`, returns how many they are, and gives the picture up.
+    ///
+    /// Returns `None` and changes nothing if it holds no picture, or if `into` is too short.
     pub(crate) fn take(&mut self, into: &mut [u8]) -> Option<usize>
         ensures taken { IfSome result (λ n. (n ≡ length self.old.written.taken) × (into.new ≡ self.old.written.taken ++ drop n into.old)) }
         ensures went { OnSome result ((self.new.held ≡ None) × (self.new.written.taken ≡ [])) }
