@@ -3,10 +3,10 @@
 /// Which sources have ended.
 #[derive(Clone, Copy, Debug, PartialEq, Eq)]
 pub enum Lengths {
-    /// None has.
+    /// None has ended.
     AllGo,
-    /// All have.
+    /// All have ended.
     AllEnded,
-    /// Some have, and some haven't: the lowest that has.
+    /// Some have ended and some haven't; this is the lowest that has.
     Differ(u16),
 }

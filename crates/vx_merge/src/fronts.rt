@@ -1,4 +1,4 @@
-//! The slices of the picture that a round is put together as, up to their payloads.
+//! The slices of the merged picture, up to their payloads.
 ghost use Rattle.std.specs.Prelude.{◌≡◌, ℕ, ◌<◌, ◌≤◌, ◌++◌, List, length, map, slice_get, IfOk, IfSome, OnOk};
 ghost use Rattle.vx_ph.specs.InForce.{in_force, structures};
 ghost use Rattle.vx_ph.specs.Picture.{IsHeader};
@@ -19,7 +19,7 @@ use vx_pic::{Picture, picture_ids};
 use vx_sh::{SliceNumbers, SliceSender, slice_has_filter};
 use vx_write::plain_unit;
 
-/// The unit of slice i of source k up to its payload.
+/// Makes the unit of slice `i` of source `k`, up to its payload.
 fn slice_front(
     alloc: Global,
     round: &[Picture<'_>],
@@ -45,7 +45,7 @@ fn slice_front(
     plain_unit(alloc, kind.nal_type, kind.temporal_id, &bytes)
 }
 
-/// Appends those of source k.
+/// Appends the units of the slices of source `k`.
 fn push_fronts(
     alloc: Global,
     round: &[Picture<'_>],
@@ -66,7 +66,7 @@ fn push_fronts(
     Ok(())
 }
 
-/// Those of all sources, under what is in force at them.
+/// Makes the units of the slices of all sources, under what is in force for them.
 fn fronts_at(
     alloc: Global,
     round: &[Picture<'_>],
@@ -85,7 +85,7 @@ fn fronts_at(
     Ok(fronts)
 }
 
-/// The units of the slices of all pictures up to their payloads, by source and then by address.
+/// Makes the units of the slices of all pictures, up to their payloads, by source and then by address.
 pub(crate) fn slice_fronts(
     alloc: Global,
     round: &[Picture<'_>],

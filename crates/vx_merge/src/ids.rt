@@ -14,18 +14,18 @@ use std::alloc::{AllocError, Global};
 use vx_bits::BodyList;
 use vx_write::{NeededAps, NeededSet, Slots};
 
-/// Which sets are looked for, for a picture of a TemporalId.
+/// Which sets are looked for, for a picture with this TemporalId.
 #[derive(Clone, Copy)]
 pub(crate) struct Search {
     /// The TemporalId of the picture.
     pub(crate) temporal_id: u8,
-    /// The type of the sets: `aps_params_type`.
+    /// The type of the sets, `aps_params_type`.
     pub(crate) kind: u8,
-    /// How many ids it has.
+    /// How many ids the type has.
     pub(crate) count: u8,
 }
 
-/// Whether a body is resident with an id.
+/// Returns whether a body is resident under an id.
 fn is_held(slots: &Slots, search: Search, body: &[u8], id: u8) -> bool
     ensures { result ≡ taking.is_held slots.now search.temporal_id search.kind body.now id }
 {
@@ -36,7 +36,7 @@ fn is_held(slots: &Slots, search: Search, body: &[u8], id: u8) -> bool
     )
 }
 
-/// The lowest id with which a body is resident.
+/// Returns the lowest id under which a body is resident.
 fn held_id(slots: &Slots, search: Search, body: &[u8]) -> Option<u8>
     ensures { IsLowestAnswer search.count (IsHeldBy slots.now search.temporal_id search.kind body.now) result }
 {
@@ -48,7 +48,7 @@ fn held_id(slots: &Slots, search: Search, body: &[u8]) -> Option<u8>
     None
 }
 
-/// Those of several bodies.
+/// Returns the lowest ids under which the bodies are resident.
 fn held_ids(
     alloc: Global,
     slots: &Slots,
@@ -64,7 +64,7 @@ fn held_ids(
     Ok(held)
 }
 
-/// Whether a body that is resident has an id.
+/// Returns whether one of the resident bodies has this id.
 fn has_held(held: &[Option<u8>], id: u8) -> bool
     ensures { result ≡ list_any (taking.is_id id) held.now }
 {
@@ -76,7 +76,7 @@ fn has_held(held: &[Option<u8>], id: u8) -> bool
     false
 }
 
-/// Whether an id is among others.
+/// Returns whether an id is in the list.
 fn has_id(ids: &[u8], id: u8) -> bool
     ensures { result ≡ list_any (λ i. i == id) ids.now }
 {
@@ -88,14 +88,14 @@ fn has_id(ids: &[u8], id: u8) -> bool
     false
 }
 
-/// Whether an id is taken: by a body that is resident, or by one before.
+/// Returns whether an id is taken, by a resident body or by an earlier one.
 fn is_taken(held: &[Option<u8>], ids: &[u8], id: u8) -> bool
     ensures { result ≡ taking.is_taken held.now ids.now id }
 {
     has_held(held, id) || has_id(ids, id)
 }
 
-/// Whether nothing was sent with an id.
+/// Returns whether nothing was sent under an id.
 fn is_empty(slots: &Slots, search: Search, id: u8) -> bool
     ensures { result ≡ sent_sets.is_vacant (an_aps_of search.kind id) slots.now }
 {
@@ -103,14 +103,14 @@ fn is_empty(slots: &Slots, search: Search, id: u8) -> bool
     slots.is_vacant(NeededSet::Aps(NeededAps { kind, id, body }))
 }
 
-/// Whether an id is open: it isn't taken, and nothing was sent with it.
+/// Returns whether an id is open: it isn't taken, and nothing was sent under it.
 fn is_open(slots: &Slots, search: Search, held: &[Option<u8>], ids: &[u8], id: u8) -> bool
     ensures { result ≡ taking.is_open slots.now search.kind held.now ids.now true id }
 {
     !is_taken(held, ids, id) && is_empty(slots, search, id)
 }
 
-/// The lowest id that is open.
+/// Returns the lowest open id.
 fn lowest_open(slots: &Slots, search: Search, held: &[Option<u8>], ids: &[u8]) -> Option<u8>
     ensures { IsLowestAnswer search.count (taking.IsOpen slots.now search.kind held.now ids.now true) result }
 {
@@ -122,7 +122,7 @@ fn lowest_open(slots: &Slots, search: Search, held: &[Option<u8>], ids: &[u8]) -
     None
 }
 
-/// The lowest id that isn't taken. There is one: there are no more bodies than ids.
+/// Returns the lowest id that isn't taken. There is one, because there are no more bodies than ids.
 fn lowest_free(search: Search, held: &[Option<u8>], ids: &[u8]) -> u8
     requires few { length held.now ≤ search.count }
     requires room { taking.HasRoom held.now ids.now }
@@ -135,7 +135,7 @@ fn lowest_free(search: Search, held: &[Option<u8>], ids: &[u8]) -> u8
     id
 }
 
-/// The id of a body that isn't resident: the lowest open one, or else the lowest that isn't taken.
+/// Returns the id of a body that isn't resident: the lowest open one, or if there is none the lowest that isn't taken.
 fn new_id(slots: &Slots, search: Search, held: &[Option<u8>], ids: &[u8]) -> u8
     requires few { length held.now ≤ search.count }
     requires room { taking.HasRoom held.now ids.now }
@@ -147,7 +147,7 @@ fn new_id(slots: &Slots, search: Search, held: &[Option<u8>], ids: &[u8]) -> u8
     }
 }
 
-/// The id of body k, behind those of the bodies before it.
+/// Returns the id of body `k`, after those of the bodies before it.
 #[tactic(auto, using(crate::proofs::Assigning::next_held, crate::proofs::Assigning::next_other, crate::proofs::Assigning::room_there))]
 fn next_id(slots: &Slots, search: Search, held: &[Option<u8>], ids: &[u8], k: usize) -> u8
     requires few { length held.now ≤ search.count }
@@ -162,7 +162,7 @@ fn next_id(slots: &Slots, search: Search, held: &[Option<u8>], ids: &[u8], k: us
     }
 }
 
-/// The ids of bodies of one type, in their order.
+/// Returns the ids of bodies of one type, in their order.
 pub(crate) fn take_ids(
     alloc: Global,
     slots: &Slots,

@@ -1,4 +1,4 @@
-//! The rule on pictures that are joined behind others.
+//! The rule on pictures that come after a join.
 ghost use Rattle.std.specs.Prelude.{◌≡◌, ◌≤◌, ◌∷◌, [], cond, length};
 ghost use Rattle.std.specs.Bool.{OnTrue, OnFalse};
 ghost use Rattle.vx_fit.specs.Lowest.{IsLowestAnswer};
@@ -12,7 +12,7 @@ use vx_fields::ph::ph_non_ref_pic_flag;
 use vx_frame::{lowest_source, of_source};
 use vx_pic::{Picture, number_of};
 
-/// Whether a picture may not come first behind a join.
+/// Returns whether a picture may not come first after a join.
 fn cannot_start(picture: &Picture<'_>) -> bool
     ensures cannot { OnTrue result (¬ CanStart picture.now) }
     ensures can { OnFalse result (CanStart picture.now) }
@@ -27,7 +27,7 @@ fn cannot_start(picture: &Picture<'_>) -> bool
     number_of(&picture.header().fields, ph_non_ref_pic_flag) != 0
 }
 
-/// The lowest source whose picture may not.
+/// Returns the lowest source whose picture may not come first after a join.
 #[tactic(auto, using(vx_frame::proofs::FirstTold::lowest_told))]
 fn lowest_unable(round: &[Picture<'_>]) -> Option<u16>
     requires { length round.now ≤ 64 }
@@ -36,7 +36,7 @@ fn lowest_unable(round: &[Picture<'_>]) -> Option<u16>
     lowest_source(round, cannot_start)
 }
 
-/// Whether the pictures of a round can't be joined behind others.
+/// Returns the refusal of a round that can't be joined (M15).
 fn join_start(round: &[Picture<'_>]) -> Option<Refusal>
     requires { length round.now ≤ 64 }
     ensures { Finds (length round.now) (words.join_start round.now ∷ []) result }
@@ -44,7 +44,7 @@ fn join_start(round: &[Picture<'_>]) -> Option<Refusal>
     of_source(JOIN_START, lowest_unable(round))
 }
 
-/// Whether they can't be, where they are to be joined.
+/// Returns the refusal of a round that is to be joined and can't be (M15).
 pub(crate) fn join_refusal(joins: bool, round: &[Picture<'_>]) -> Option<Refusal>
     requires { length round.now ≤ 64 }
     ensures { Finds (length round.now) (cond joins (words.join_start round.now ∷ []) []) result }

@@ -1,4 +1,4 @@
-//! The limits of what is to be written, by lengths alone: of a unit, of a picture, and of all.
+//! The limits of what is to be written, from lengths only: of a unit, of a picture, and of the stream.
 ghost use Rattle.std.specs.Prelude.{◌≡◌, ◌+◌, ◌++◌, length, map, option_copied, option_to_list, IfOk, IfErr, OnOk, Some, None};
 ghost use Rattle.std.specs.List.{AllByRecursion, list_any};
 ghost use Rattle.vx_pic.specs.Written.{eos_units};
@@ -16,14 +16,14 @@ const START_CODE: u64 = 4;
 
 // ---- units
 
-/// Whether a unit that comes in two pieces is too long.
+/// Returns whether a unit in two pieces is too long.
 fn is_long(front: &[u8], rest: &[u8]) -> bool
     ensures { result ≡ making.is_long (front.now ++ rest.now) }
 {
     front.len() + rest.len() > UNIT_LIMIT
 }
 
-/// Whether one of these units is too long.
+/// Returns whether one of these units is too long.
 fn has_long(units: &[Vec<u8>]) -> bool
     ensures { result ≡ list_any making.is_long (map (λ unit. unit.items) units.now) }
 {
@@ -35,7 +35,7 @@ fn has_long(units: &[Vec<u8>]) -> bool
     false
 }
 
-/// Whether there is a unit, and it is too long.
+/// Returns whether there is a unit and it is too long.
 fn is_some_long(unit: Option<&[u8]>) -> bool
     ensures { result ≡ list_any making.is_long (option_to_list (option_copied unit.entry)) }
 {
@@ -45,7 +45,7 @@ fn is_some_long(unit: Option<&[u8]>) -> bool
     }
 }
 
-/// Whether the unit of a slice is too long.
+/// Returns whether the unit of a slice is too long.
 fn has_long_slice(units: &RoundUnits<'_>) -> bool
     requires { HasPayloads units.now }
     ensures { result ≡ list_any making.is_long (making.slice_units units.now) }
@@ -59,7 +59,7 @@ fn has_long_slice(units: &RoundUnits<'_>) -> bool
     false
 }
 
-/// Whether a unit is too long.
+/// Returns whether a unit of the round is too long.
 fn has_long_unit(units: &RoundUnits<'_>) -> bool
     requires { HasPayloads units.now }
     ensures { result ≡ list_any making.is_long (making.units_made units.now) }
@@ -78,7 +78,7 @@ fn has_long_unit(units: &RoundUnits<'_>) -> bool
 
 // ---- bytes: counts stay at the highest number of 64 bits
 
-/// A count of bytes with a unit and its start code.
+/// Adds the bytes of a unit and its start code.
 fn with_unit(total: u64, unit: &[u8]) -> u64
     ensures count { result ≡ making.capped (total + (4 + length unit.now)) }
     ensures bytes { AreBytes unit.now }
@@ -88,7 +88,7 @@ fn with_unit(total: u64, unit: &[u8]) -> u64
         .saturating_add(unit.len() as u64)
 }
 
-/// With an end of sequence, where there is one.
+/// Adds the bytes of an end of sequence, if there is one.
 fn with_end(total: u64, after_eos: bool) -> u64
     ensures { result ≡ making.capped (total + making.size_of 4 (eos_units after_eos)) }
 {
@@ -98,7 +98,7 @@ fn with_end(total: u64, after_eos: bool) -> u64
     total
 }
 
-/// With units.
+/// Adds the bytes of units.
 fn with_units(total: u64, units: &[Vec<u8>]) -> u64
     ensures count { result ≡ making.capped (total + making.size_of 4 (map (λ unit. unit.items) units.now)) }
     ensures bytes { AllByRecursion AreBytes (map (λ unit. unit.items) units.now) }
@@ -110,7 +110,7 @@ fn with_units(total: u64, units: &[Vec<u8>]) -> u64
     sum
 }
 
-/// With a unit, where there is one.
+/// Adds the bytes of a unit, if there is one.
 fn with_some(total: u64, unit: Option<&[u8]>) -> u64
     ensures count { result ≡ making.capped (total + making.size_of 4 (option_to_list (option_copied unit.entry))) }
     ensures bytes { AllByRecursion AreBytes (option_to_list (option_copied unit.entry)) }
@@ -121,7 +121,7 @@ fn with_some(total: u64, unit: Option<&[u8]>) -> u64
     }
 }
 
-/// A count of bytes with those of a slice, in two pieces, and so many more.
+/// Adds the bytes of a slice, in two pieces, and `each` more.
 fn with_slice(total: u64, each: u64, front: &[u8], payload: &[u8]) -> u64
     ensures count { result ≡ making.capped (total + (each + length (front.now ++ payload.now))) }
     ensures bytes { AreBytes (front.now ++ payload.now) }
@@ -130,7 +130,7 @@ fn with_slice(total: u64, each: u64, front: &[u8], payload: &[u8]) -> u64
     total.saturating_add(each).saturating_add(length as u64)
 }
 
-/// With those of the slices, and so many more for each.
+/// Adds the bytes of the slices, and `each` more for each.
 fn with_slices(total: u64, each: u64, units: &RoundUnits<'_>) -> u64
     requires { HasPayloads units.now }
     ensures count { result ≡ making.capped (total + making.size_of each (making.slice_units units.now)) }
@@ -144,7 +144,7 @@ fn with_slices(total: u64, each: u64, units: &RoundUnits<'_>) -> u64
     sum
 }
 
-/// A count of bytes with all that is written of a round.
+/// Adds all bytes that are written of a round.
 fn with_round(bytes: u64, units: &RoundUnits<'_>) -> u64
     requires { HasPayloads units.now }
     ensures count { result ≡ making.capped (bytes + making.size_of 4 (making.units_made units.now)) }
@@ -159,11 +159,9 @@ fn with_round(bytes: u64, units: &RoundUnits<'_>) -> u64
 
 // ---- limits
 
-/// How many bytes are written in all, behind so many, where what is written of a round keeps the limits.
+/// Returns how many bytes are written in all if the round keeps the limits. `bytes` of them come before.
 ///
-/// # Errors
-///
-/// The first limit that it doesn't.
+/// *Errors:* the first limit that the round exceeds (L1, L2, L3).
 pub(crate) fn bytes_within(units: &RoundUnits<'_>, bytes: u64) -> Result<u64, Refusal>
     requires { HasPayloads units.now }
     ensures total { IfOk result (λ total. total ≡ bytes + making.size_of 4 (making.units_made units.now)) }

@@ -1,4 +1,4 @@
-//! Round after round of pictures that are put together.
+//! A merger: round after round of pictures becomes one stream.
 ghost use Rattle.std.specs.Prelude.{◌≡◌, All, List, length, map, IfOk, OnOk};
 ghost use Rattle.vx_pic.specs.Written.{Plan};
 ghost use Rattle.vx_frame.specs.Corners.{AreCorners};
@@ -18,10 +18,10 @@ use vx_io::Sink;
 use vx_pic::{Lender, Picture, lent};
 use vx_write::{Slots, WriteError, WriteFirst, first_of};
 
-/// Puts together round after round, a round being one picture of each source, or checks round after round: what passes a check counts as
-/// written.
+/// Merges round after round, or checks round after round. A round is one picture of each source.
 ///
-/// After a refusal, want of memory or a failed write it answers [`WriteError::Stopped`], and writes nothing more.
+/// A round that passes a check counts as written, so a merger either checks or writes. After a refusal, lack of memory or a failed write
+/// every call returns [`WriteError::Stopped`] with it, and writes nothing.
 #[derive(Drop)]
 pub struct Merger {
     alloc: Global,
@@ -44,7 +44,7 @@ impl Model for Merger {
     ghost invariant = { λ m. AreCorners m.corners.items × (m.first ≡ None → IsProgress m.corners.items m.level m.progress) };
 }
 
-/// The pictures that are lent, each behind an end of sequence.
+/// Returns the lent pictures, each after an end of sequence.
 fn joined<L: Lender>(alloc: Global, lenders: &[L]) -> Result<Vec<Picture<'_>>, AllocError>
     requires { All L.holds lenders.now }
     ensures { IfOk result (λ round. round.items ≡ map words.after_end_of_sequence (map L.lent lenders.now)) }
@@ -56,7 +56,7 @@ fn joined<L: Lender>(alloc: Global, lenders: &[L]) -> Result<Vec<Picture<'_>>, A
     Ok(round)
 }
 
-/// The pictures that are lent, as they are written where they are joined or not.
+/// Returns the lent pictures, as they are or each after an end of sequence.
 fn pictures<L: Lender>(
     alloc: Global,
     lenders: &[L],
@@ -112,7 +112,7 @@ fn check_lent<L: Lender>(
     check_round(alloc, corners, level, progress, &round)
 }
 
-/// Writes a round of pictures, joined behind those before it or not.
+/// Writes a round of pictures; `joins` says whether it comes after an end of sequence.
 fn write_round<K: Sink>(
     alloc: Global,
     corners: &[Corner],
@@ -138,7 +138,7 @@ fn write_round<K: Sink>(
     Ok(())
 }
 
-/// Writes a round of lenders, joined behind those before it or not.
+/// Writes a round of lenders; `joins` says whether it comes after an end of sequence.
 fn write_lent<L: Lender, K: Sink>(
     alloc: Global,
     corners: &[Corner],
@@ -173,7 +173,9 @@ impl Merger {
     ghost use Rattle.vx_merge.specs.Merging.{ChecksRound, SameTask, Stands, WritesOneRound};
     ghost use Rattle.vx_merge.specs.inner.Counting.{WritesWhere};
 
-    /// A merger of regions with these upper left corners, in luma samples, with a level of its own or the sources' highest.
+    /// Makes a merger of regions with these upper left corners, in luma samples.
+    ///
+    /// `level` is the level to write; `None` means the highest of the sources'. *Errors:* [`AllocError`] if memory runs out.
     pub fn new(alloc: Global, corners: &[Corner], level: Option<u8>) -> Result<Merger, AllocError>
         requires { AreCorners corners.now }
         ensures task { IfOk result (λ m. (m.corners ≡ corners.now) × (m.level ≡ level)) }
@@ -194,7 +196,7 @@ impl Merger {
         })
     }
 
-    /// Writes what a round is put together as, joined behind the rounds before it or not.
+    /// Writes the merged picture of a round; `joins` says whether it comes after an end of sequence.
     fn write<L: Lender, K: Sink>(
         &mut self,
         lenders: &[L],
@@ -223,13 +225,11 @@ impl Merger {
         }
     }
 
-    /// Whether a round can be put together and written, behind the rounds before it: as many lenders as corners, each holding its picture.
-    /// It writes nothing, but a round that passes counts as written: a merger either checks or writes.
+    /// Checks whether a round can be merged and written after earlier rounds. Writes nothing.
     ///
-    /// # Errors
-    ///
-    /// The first rule that the pictures break, with the lowest source that breaks it, or else the first limit that what would be
-    /// written doesn't keep, or want of memory. All later rounds are answered with the first of these.
+    /// `lenders` has one lender for each corner, in order, and each holds its picture. A round that passes counts as written. *Errors:*
+    /// `Refused`: the first rule that the round breaks, with the lowest source that breaks it, or the first limit that the merged picture
+    /// would exceed. `Memory`. After an error every call returns `Stopped` with it.
     pub fn check<L: Lender>(&mut self, lenders: &[L]) -> Result<(), WriteError>
         requires count { length lenders.now ≡ length self.old.corners }
         requires holds { All L.holds lenders.now }
@@ -252,13 +252,19 @@ impl Merger {
         }
     }
 
-    /// Writes what a round is put together as, behind the rounds before it: as many lenders as corners, each holding its picture.
+    /// Writes the merged picture of a round, after those of earlier rounds.
     ///
-    /// # Errors
+    /// `lenders` has one lender for each corner, in order, and each holds its picture. The units come in this order: an end of sequence
+    /// where one stood, the needed sets that aren't resident, source 0's messages, a picture header, and the slices of all sources.
     ///
-    /// The first rule that the pictures break, with the lowest source that breaks it, or else the first limit that what would be
-    /// written doesn't keep, or want of memory, and nothing of the round is then written; or a failed write, and a front of it is
-    /// then written. All later rounds are answered with the first of these.
+    /// - The picture header is source 0's except for its PPS and its LMCS and scaling lists, which are on if a source has them. It has
+    ///   neither filter nor QP.
+    /// - A slice header is its source's except for the subpicture, the filter with the ids of the merged picture, the use of LMCS and
+    ///   scaling lists, and the QP, which counts from source 0's. Its payload is copied byte for byte.
+    ///
+    /// *Errors:* `Refused`: the first rule that the round breaks, with the lowest source that breaks it, or the first limit that the
+    /// merged picture would exceed. `Memory`. After either, nothing of the round is written. `SinkFailed`: a proper prefix of the picture
+    /// is written. After an error every call returns `Stopped` with it.
     pub fn round<L: Lender, K: Sink>(
         &mut self,
         lenders: &[L],
@@ -275,12 +281,11 @@ impl Merger {
         self.write(lenders, false, out)
     }
 
-    /// Writes what a round is put together as that is joined behind the rounds before it: each of its pictures behind an end of sequence.
-    /// As many lenders as corners, each holding its picture.
+    /// Writes the merged picture of a round after an end of sequence, after those of earlier rounds.
     ///
-    /// # Errors
-    ///
-    /// The lowest source whose picture can't start a coded layer video sequence there, tried before all rules; else as [`Merger::round`].
+    /// `lenders` is as in [`Merger::round`]. *Errors:* `Refused` with M15, tried before all other rules, for the lowest source whose
+    /// picture can't come first: it must start a coded layer video sequence, have TemporalId 0, and be a reference picture. Otherwise as
+    /// [`Merger::round`].
     pub fn joined_round<L: Lender, K: Sink>(
         &mut self,
         lenders: &[L],

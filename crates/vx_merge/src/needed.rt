@@ -33,7 +33,7 @@ use vx_write::Slots;
 /// How many ids PPSs have (H.266 7.4.3.5).
 const PPS_SLOTS: u8 = 64;
 
-/// The bodies of one type of adaptation parameter sets, and the ids that they take, in their order.
+/// The bodies of one type of adaptation parameter sets, and the ids that they take, in the same order.
 #[derive(Drop)]
 pub(crate) struct NamedBodies<'a> {
     /// The bodies.
@@ -45,25 +45,25 @@ pub(crate) struct NamedBodies<'a> {
 /// The sets that a round needs, with the ids that they take.
 #[derive(Drop)]
 pub(crate) struct RoundSets<'s, 'a> {
-    /// The SPS, of id 0.
+    /// The SPS, with id 0.
     pub(crate) sps: &'s Sps,
     /// The PPS.
     pub(crate) pps: &'s Pps,
-    /// Its id.
+    /// The id of the PPS.
     pub(crate) pps_id: u8,
-    /// Adaptive loop filters.
+    /// The adaptive loop filters.
     pub(crate) alf: NamedBodies<'a>,
-    /// Luma mapping with chroma scaling, where a source has it.
+    /// The luma mapping with chroma scaling, if a source has it.
     pub(crate) lmcs: NamedBodies<'a>,
     /// Whether the lowest source that has it scales chroma residuals.
     pub(crate) scales_chroma: bool,
-    /// Scaling lists, where a source has them.
+    /// The scaling lists, if a source has them.
     pub(crate) scaling: NamedBodies<'a>,
 }
 
 // ---- bodies
 
-/// What is known of the bodies of a picture: they can end a unit. Does nothing.
+/// States that the bodies of a picture can end a unit. Does nothing.
 fn bodies_of(picture: &Picture<'_>)
     ensures { HasEnds picture.now }
 {
@@ -72,7 +72,7 @@ fn bodies_of(picture: &Picture<'_>)
     }
 }
 
-/// What is known of those of all pictures. Does nothing.
+/// States that the bodies of all pictures can end a unit. Does nothing.
 fn all_bodies(round: &[Picture<'_>])
     ensures { AllByRecursion HasEnds round.now }
 {
@@ -81,7 +81,7 @@ fn all_bodies(round: &[Picture<'_>])
     }
 }
 
-/// Whether a round has nothing of adaptation parameter sets.
+/// Returns whether a round needs no adaptation parameter set.
 fn has_none(bodies: &RoundBodies<'_>) -> bool
     ensures { OnTrue result (HasNone bodies.now) }
 {
@@ -97,7 +97,7 @@ fn has_none(bodies: &RoundBodies<'_>) -> bool
     true
 }
 
-/// What is known of the bodies that a round needs: they can end a unit. Does nothing, and looks at no picture where there are none.
+/// States that the bodies that a round needs can end a unit. Does nothing, and looks at no picture if there are none.
 fn bodies_end(round: &[Picture<'_>], bodies: &RoundBodies<'_>)
     requires gathered { AreGathered round.now bodies.now }
     requires few { bodies.now.filters.too_many ≡ None }
@@ -109,7 +109,7 @@ fn bodies_end(round: &[Picture<'_>], bodies: &RoundBodies<'_>)
     all_bodies(round);
 }
 
-/// The body of LMCS of the lowest source that has it.
+/// Returns the LMCS body of the lowest source that has one.
 fn shared_lmcs<'a>(round: &[Picture<'a>], lowest: Option<u16>) -> Option<&'a [u8]>
     requires { IsLowestWith words.has_lmcs round.now lowest }
     ensures { option_copied result ≡ of_lowest words.has_lmcs words.lmcs_body None round.now }
@@ -120,7 +120,7 @@ fn shared_lmcs<'a>(round: &[Picture<'a>], lowest: Option<u16>) -> Option<&'a [u8
     }
 }
 
-/// Whether it scales chroma residuals.
+/// Returns whether that source scales chroma residuals.
 fn scales_chroma(round: &[Picture<'_>], lowest: Option<u16>) -> bool
     requires { IsLowestWith words.has_lmcs round.now lowest }
     ensures { result ≡ of_lowest words.has_lmcs words.is_chroma_scaled false round.now }
@@ -131,7 +131,7 @@ fn scales_chroma(round: &[Picture<'_>], lowest: Option<u16>) -> bool
     }
 }
 
-/// The body of scaling lists of the lowest source that has them.
+/// Returns the scaling lists of the lowest source that has them.
 fn shared_scaling<'a>(round: &[Picture<'a>], lowest: Option<u16>) -> Option<&'a [u8]>
     requires { IsLowestWith words.has_scaling round.now lowest }
     ensures { option_copied result ≡ of_lowest words.has_scaling words.scaling_body None round.now }
@@ -142,7 +142,7 @@ fn shared_scaling<'a>(round: &[Picture<'a>], lowest: Option<u16>) -> Option<&'a 
     }
 }
 
-/// A body as a list, where there is one.
+/// Returns a list of the body, if there is one.
 fn one_or_none<'a>(alloc: Global, body: Option<&'a [u8]>) -> Result<BodyList<'a>, AllocError>
     ensures { IfOk result (λ found. map (λ b. b.now) found ≡ option_to_list (option_copied body.entry)) }
 {
@@ -156,7 +156,7 @@ fn one_or_none<'a>(alloc: Global, body: Option<&'a [u8]>) -> Result<BodyList<'a>
 
 // ---- ids
 
-/// Bodies of one type with the ids that they take.
+/// Returns bodies of one type with the ids that they take.
 fn named<'a>(
     alloc: Global,
     slots: &Slots,
@@ -170,7 +170,7 @@ fn named<'a>(
     Ok(NamedBodies { bodies, ids })
 }
 
-/// Where adaptive loop filters are looked for.
+/// Returns where adaptive loop filters are looked for.
 pub(crate) fn of_alf(temporal_id: u8) -> Search
     ensures { result ≡ record { temporal_id = temporal_id; kind = types.ALF; count = alf_slots } }
 {
@@ -181,7 +181,7 @@ pub(crate) fn of_alf(temporal_id: u8) -> Search
     }
 }
 
-/// Where LMCS is looked for.
+/// Returns where LMCS bodies are looked for.
 pub(crate) fn of_lmcs(temporal_id: u8) -> Search
     ensures { result ≡ record { temporal_id = temporal_id; kind = types.LMCS; count = lmcs_slots } }
 {
@@ -192,7 +192,7 @@ pub(crate) fn of_lmcs(temporal_id: u8) -> Search
     }
 }
 
-/// Where scaling lists are looked for.
+/// Returns where scaling lists are looked for.
 pub(crate) fn of_scaling(temporal_id: u8) -> Search
     ensures { result ≡ record { temporal_id = temporal_id; kind = types.SCALING; count = scaling_slots } }
 {
@@ -203,7 +203,7 @@ pub(crate) fn of_scaling(temporal_id: u8) -> Search
     }
 }
 
-/// The LMCS of a round.
+/// Returns the LMCS body of a round with its id.
 fn named_lmcs<'a>(
     alloc: Global,
     slots: &Slots,
@@ -218,7 +218,7 @@ fn named_lmcs<'a>(
     named(alloc, slots, of_lmcs(temporal_id), bodies)
 }
 
-/// The scaling lists of a round.
+/// Returns the scaling lists of a round with their id.
 fn named_scaling<'a>(
     alloc: Global,
     slots: &Slots,
@@ -233,7 +233,7 @@ fn named_scaling<'a>(
     named(alloc, slots, of_scaling(temporal_id), bodies)
 }
 
-/// The lowest id with which a PPS is resident.
+/// Returns the lowest id under which this PPS is resident.
 fn held_pps_id(slots: &Slots, temporal_id: u8, pps: &Pps) -> Option<u8>
     ensures { IsLowestAnswer pps_slots (IsHeldAs slots.now temporal_id pps.now) result }
 {
@@ -245,7 +245,7 @@ fn held_pps_id(slots: &Slots, temporal_id: u8, pps: &Pps) -> Option<u8>
     None
 }
 
-/// The lowest id with which no PPS was sent.
+/// Returns the lowest id under which no PPS was sent.
 fn empty_pps_id(slots: &Slots) -> Option<u8>
     ensures { IsLowestAnswer pps_slots (IsEmptyPps slots.now) result }
 {
@@ -257,7 +257,7 @@ fn empty_pps_id(slots: &Slots) -> Option<u8>
     None
 }
 
-/// The id that a PPS takes.
+/// Returns the id that a PPS takes.
 pub(crate) fn taken_pps_id(slots: &Slots, temporal_id: u8, pps: &Pps) -> u8
     requires { ArePpsItems pps.now }
     ensures low { result < pps_slots }
@@ -272,7 +272,7 @@ pub(crate) fn taken_pps_id(slots: &Slots, temporal_id: u8, pps: &Pps) -> u8
 
 // ---- all
 
-/// The sets that a round with these bodies needs, with the ids that they take behind the sets that were sent.
+/// Returns the sets that a round with these bodies needs, with the ids that they take after the sets that were sent.
 pub(crate) fn needed<'s, 'a>(
     alloc: Global,
     round: &[Picture<'a>],

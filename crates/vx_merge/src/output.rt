@@ -1,4 +1,4 @@
-//! What is written of a round, and writing it.
+//! The units of a merged picture, and writing them.
 ghost use Rattle.std.specs.Prelude.{◌≡◌, ◌<◌, ◌∷◌, [], ◌++◌, length, option_copied, option_map, slice_get, Some};
 ghost use Rattle.vx_write.specs.Writing.{Takes};
 ghost use Rattle.vx_merge.specs.inner.Making as making;
@@ -9,7 +9,7 @@ use vx_bits::BodyList;
 use vx_io::{Sink, SinkFailed};
 use vx_write::{write_all_of, write_end, write_one, write_some};
 
-/// The units of a round: all that is written of it, made before any of it is.
+/// All that is written of a round, made before any of it is written.
 #[derive(Drop)]
 pub(crate) struct RoundUnits<'a> {
     /// Whether an end of sequence comes first.
@@ -20,30 +20,30 @@ pub(crate) struct RoundUnits<'a> {
     pub(crate) sei: Option<Vec<u8>>,
     /// The PH unit.
     pub(crate) header: Vec<u8>,
-    /// The units of the slices up to their payloads.
+    /// The units of the slices, up to their payloads.
     pub(crate) fronts: Vec<Vec<u8>>,
-    /// Their payloads.
+    /// The payloads of the slices.
     pub(crate) payloads: BodyList<'a>,
 }
 
 /// The unit of a slice, in two pieces.
 #[derive(Clone, Copy)]
 pub(crate) struct SliceUnit<'a> {
-    /// Up to its payload.
+    /// The unit up to its payload.
     pub(crate) front: &'a [u8],
-    /// Its payload.
+    /// The payload.
     pub(crate) payload: &'a [u8],
 }
 
 impl<'a> RoundUnits<'a> {
-    /// The SEI unit.
+    /// Returns the SEI unit, if there is one.
     pub(crate) fn sei_unit(&self) -> Option<&[u8]>
         ensures { option_copied result ≡ option_map (λ unit. unit.items) self.now.sei }
     {
         self.sei.as_deref()
     }
 
-    /// The unit of a slice, by source and then by address.
+    /// Returns the unit of slice `i`. Slices are ordered by source and then by address.
     pub(crate) fn slice(&self, i: usize) -> SliceUnit<'_>
         requires payloads { HasPayloads self.now }
         requires within { i < length self.now.fronts.items }
@@ -75,7 +75,7 @@ fn write_slices<K: Sink>(out: &mut K, units: &RoundUnits<'_>) -> Result<(), Sink
     Ok(())
 }
 
-/// Writes the units of a round. It takes no memory.
+/// Writes the units of a round. Takes no memory.
 pub(crate) fn write_units<K: Sink>(out: &mut K, units: &RoundUnits<'_>) -> Result<(), SinkFailed>
     requires { HasPayloads units.now }
     ensures { Takes (K.bytes_taken out.old) (K.bytes_taken out.new) (K.write_faults out.old) (K.write_faults out.new) (making.units_made units.now) result }

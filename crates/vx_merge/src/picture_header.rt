@@ -1,4 +1,4 @@
-//! The picture header that is sent for a round.
+//! The picture header of a merged picture.
 ghost use Rattle.std.specs.Prelude.{◌≡◌, ℕ, ◌<◌, List, false, slice_get, option_map, IfOk};
 ghost use Rattle.vx_ph.specs.InForce.{in_force, structures};
 ghost use Rattle.vx_ph.specs.Picture.{IsHeader, IsPictureHeaderUnit};
@@ -17,14 +17,14 @@ use vx_ph::{LmcsShape, PhShape, PictureHeader, reshape_ph, write_ph};
 use vx_pic::{PH_NUT, Picture};
 use vx_write::plain_unit;
 
-/// The id of the first body, where there is one.
+/// Returns the id of the first body, if there is one.
 fn first_id(named: &NamedBodies<'_>) -> Option<u8>
     ensures { result ≡ slice_get named.now.ids.items 0 }
 {
     named.ids.first().copied()
 }
 
-/// What the header says of luma mapping with chroma scaling, where a source has it.
+/// Returns what the header says of luma mapping with chroma scaling, if a source has it.
 fn lmcs_shape(
     _round: &[Picture<'_>],
     lmcs: &NamedBodies<'_>,
@@ -37,7 +37,7 @@ fn lmcs_shape(
     Some(LmcsShape { id, scales_chroma })
 }
 
-/// What the header says.
+/// Returns what the header says.
 fn shape_of(round: &[Picture<'_>], needed: &RoundSets<'_, '_>) -> PhShape
     requires { needed.now.scales_chroma ≡ of_lowest bodies.has_lmcs bodies.is_chroma_scaled false round.now }
     ensures { result ≡ spec.ph_shape round.now (ids_in needed.now) }
@@ -49,7 +49,7 @@ fn shape_of(round: &[Picture<'_>], needed: &RoundSets<'_, '_>) -> PhShape
     }
 }
 
-/// The picture header of a round, under the sets that are sent for it.
+/// Makes the picture header of a round, under the sets that are sent for it.
 pub(crate) fn picture_header(
     alloc: Global,
     round: &[Picture<'_>],
@@ -63,7 +63,7 @@ pub(crate) fn picture_header(
     reshape_ph(alloc, round[0].header(), &shape, needed.sps, needed.pps)
 }
 
-/// The unit of a picture header (H.266 7.3.2.7).
+/// Makes the unit of a picture header (H.266 7.3.2.7).
 pub(crate) fn header_unit(
     alloc: Global,
     header: &PictureHeader,

@@ -2,7 +2,7 @@
 use vx_frame::Frame;
 use vx_write::Slots;
 
-/// What a merger keeps from round to round.
+/// The state that a merger keeps from round to round.
 #[derive(Drop)]
 pub(crate) struct Progress {
     /// The frame of the last round.

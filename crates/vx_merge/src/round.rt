@@ -1,4 +1,4 @@
-//! A round that is put together as one picture, and written.
+//! A round, merged into one picture and written.
 ghost use Rattle.std.specs.Prelude.{◌≡◌, ℕ, ◌<◌, ◌∷◌, [], ◌++◌, List, Option, length, map, flat_map, option_map, IfOk, IfSome, OnOk};
 ghost use Rattle.vx_ph.specs.InForce.{in_force, structures};
 ghost use Rattle.vx_ph.specs.Picture.{IsHeader};
@@ -42,7 +42,7 @@ use vx_write::{Slots, WriteError, forget_before, sei_unit};
 
 // ---- payloads
 
-/// Adds the payloads of a picture's slices.
+/// Appends the payloads of a picture's slices.
 fn add_payloads<'a>(payloads: &mut BodyList<'a>, picture: &Picture<'a>) -> Result<(), AllocError>
     ensures { OnOk result (map (λ b. b.now) payloads.new ≡ map (λ b. b.now) payloads.old ++ payloads_in picture.now) }
 {
@@ -52,7 +52,7 @@ fn add_payloads<'a>(payloads: &mut BodyList<'a>, picture: &Picture<'a>) -> Resul
     Ok(())
 }
 
-/// The payloads of all slices, by source and then by address.
+/// Returns the payloads of all slices, by source and then by address.
 fn payloads<'a>(alloc: Global, round: &[Picture<'a>]) -> Result<BodyList<'a>, AllocError>
     ensures { IfOk result (λ payloads. map (λ b. b.now) payloads ≡ flat_map payloads_in round.now) }
 {
@@ -65,7 +65,7 @@ fn payloads<'a>(alloc: Global, round: &[Picture<'a>]) -> Result<BodyList<'a>, Al
 
 // ---- the first picture
 
-/// What the picture of source 0 is.
+/// Returns the kind of source 0's picture.
 fn kind_of(round: &[Picture<'_>]) -> Kind
     requires { 0 < length round.now }
     ensures value { result ≡ (picture_at round.now 0).kind }
@@ -77,7 +77,7 @@ fn kind_of(round: &[Picture<'_>]) -> Kind
     first.kind()
 }
 
-/// The unit of its messages.
+/// Makes the unit of source 0's messages.
 fn messages_unit(alloc: Global, round: &[Picture<'_>]) -> Result<Option<Vec<u8>>, AllocError>
     requires { 0 < length round.now }
     ensures { IfOk result (λ sei. IsSeiUnit (picture_at round.now 0).kind.temporal_id (picture_at round.now 0).messages
@@ -87,7 +87,7 @@ fn messages_unit(alloc: Global, round: &[Picture<'_>]) -> Result<Option<Vec<u8>>
     sei_unit(alloc, source.messages(), source.kind().temporal_id)
 }
 
-/// What is written of a round as it is: the unit of its messages, and its payloads.
+/// Returns what is written as it is: the unit of source 0's messages, and all payloads.
 fn kept_parts<'a>(
     alloc: Global,
     round: &[Picture<'a>],
@@ -109,11 +109,11 @@ fn kept_parts<'a>(
 struct HeaderUnits {
     /// The PH unit.
     header: Vec<u8>,
-    /// The units of the slices up to their payloads.
+    /// The units of the slices, up to their payloads.
     fronts: Vec<Vec<u8>>,
 }
 
-/// The units of the headers of a round whose picture header is this.
+/// Makes the units of the headers of a round that has this picture header.
 fn units_with_header(
     alloc: Global,
     round: &[Picture<'_>],
@@ -135,7 +135,7 @@ fn units_with_header(
     })
 }
 
-/// The units of the headers of a round, under the sets that it needs and in its frame.
+/// Makes the units of the headers of a round, under the sets that it needs and in its frame.
 fn header_units(
     alloc: Global,
     round: &[Picture<'_>],
@@ -153,7 +153,7 @@ fn header_units(
 
 // ---- all of it
 
-/// All that is written of a round, under the sets that it needs and in its frame.
+/// Makes all units of a round, under the sets that it needs and in its frame.
 fn units_with<'a>(
     alloc: Global,
     layout: &Layout,
@@ -183,7 +183,7 @@ fn units_with<'a>(
     })
 }
 
-/// All that is written of a round that breaks no rule, with its PPS under the id that it takes.
+/// Makes all units of a round that breaks no rule, with its PPS under this id.
 fn units_under<'a>(
     alloc: Global,
     frame: &Frame,
@@ -210,7 +210,7 @@ fn units_under<'a>(
     }
 }
 
-/// All that is written of a round that breaks no rule, in its frame, behind the sets that were sent.
+/// Makes all units of a round that breaks no rule, in its frame, after the sets that were sent.
 fn units_behind<'a>(
     alloc: Global,
     frame: &mut Frame,
@@ -233,7 +233,7 @@ fn units_behind<'a>(
     units_under(alloc, frame, pps_id, slots, round, bodies)
 }
 
-/// All that is written of a round that breaks no rule, in its frame, which is kept then.
+/// Makes all units of a round that breaks no rule, in its frame, which is then kept.
 fn units_kept<'a>(
     alloc: Global,
     frame: Box<Frame>,
@@ -256,12 +256,9 @@ fn units_kept<'a>(
     made
 }
 
-/// All that is written of a round that breaks no rule, behind the sets that were sent. Its frame is kept where it has
-/// one, also where memory runs out behind it.
+/// Makes all units of a round that breaks no rule, after the sets that were sent.
 ///
-/// # Errors
-///
-/// The first rule that the round breaks, or want of memory.
+/// A frame of the round is kept, even if memory runs out afterwards. *Errors:* the first rule that the round breaks, or lack of memory.
 fn sound_units<'a>(
     alloc: Global,
     corners: &[Corner],
@@ -285,11 +282,9 @@ fn sound_units<'a>(
     Ok(units)
 }
 
-/// All that is written of a round, which counts as written then.
+/// Makes all units of a round, which then counts as written.
 ///
-/// # Errors
-///
-/// The first rule that the round breaks, or else the first limit that what would be written of it passes, or want of memory.
+/// *Errors:* the first rule that the round breaks, or the first limit that the merged picture would exceed, or lack of memory.
 pub(crate) fn round_units<'a>(
     alloc: Global,
     corners: &[Corner],

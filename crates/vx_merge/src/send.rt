@@ -17,7 +17,7 @@ use crate::needed::{NamedBodies, RoundSets, of_alf, of_lmcs, of_scaling};
 use std::alloc::{AllocError, Global};
 use vx_write::{NeededAps, NeededSet, Slots, send};
 
-/// Where an id stands first.
+/// Returns the first index of an id.
 fn place_of(ids: &[u8], id: u8) -> Option<usize>
     ensures { IsLowestAnswer (length ids.now) (λ k. slice_index ids.now k ≡ id) result }
 {
@@ -29,7 +29,7 @@ fn place_of(ids: &[u8], id: u8) -> Option<usize>
     None
 }
 
-/// Makes the unit of the set of one type with an id, where there is one that isn't resident.
+/// Makes the unit of the set with this id, if there is such a set and it isn't resident.
 fn send_with(
     alloc: Global,
     slots: &mut Slots,
@@ -81,7 +81,7 @@ fn send_named(
     Ok(())
 }
 
-/// Makes the units of the adaptation parameter sets that a round needs, of those that aren't resident, by rising type and id.
+/// Makes the units of the needed adaptation parameter sets that aren't resident, by rising type and id.
 fn send_bodies(
     alloc: Global,
     slots: &mut Slots,
@@ -101,8 +101,9 @@ fn send_bodies(
     send_named(alloc, slots, units, scaling, &needed.scaling)
 }
 
-/// Makes the units of the sets that a round needs, of those that aren't resident: of the SPS, of the PPS, and of adaptation parameter sets
-/// by rising type and id. They count as sent then.
+/// Makes the units of the needed sets that aren't resident, which then count as sent.
+///
+/// The SPS comes first, then the PPS, then the adaptation parameter sets by rising type and id.
 pub(crate) fn send_needed(
     alloc: Global,
     slots: &mut Slots,

@@ -1,4 +1,4 @@
-//! What the header of a slice says in the picture that a round is put together as.
+//! What the header of a slice says in the merged picture.
 ghost use Rattle.std.specs.Prelude.{◌≡◌, pos, neg_ℤ, ◌+ℤ◌, ◌-ℤ◌, ◌≤ℤ◌, true, length, map, option_copied, IfOk};
 ghost use Rattle.vx_fields.specs.declared.alf.TheConstants as alf_fields;
 ghost use Rattle.vx_fields.specs.declared.pps.TheConstants as pps_fields;
@@ -32,7 +32,7 @@ use vx_pic::{Picture, filter_fields, number_of};
 use vx_sh::{ShShape, SliceHeader};
 use vx_table::natural;
 
-/// The ids of adaptive loop filters.
+/// How many ids adaptive loop filters have.
 const MOST_IDS: u32 = 8;
 
 /// The fields of a filter that name a set.
@@ -45,21 +45,21 @@ const NAMING: [u16; 4] = [
 
 // ---- the filter
 
-/// Whether a field is one of a filter. Their numbers follow on one another.
+/// Returns whether a field belongs to a filter. The numbers of such fields are consecutive.
 fn is_of_filter(field: u16) -> bool
     ensures { result ≡ has alf_fields.ALL field }
 {
     alf_enabled_flag <= field && field <= alf_cc_cr_aps_id
 }
 
-/// Whether a field is one of a filter that names a set.
+/// Returns whether a field of a filter names a set.
 fn names_set(field: u16) -> bool
     ensures { result ≡ has set_ids field }
 {
     NAMING.contains(&field)
 }
 
-/// The id that a body takes, and 0 where it is none of these.
+/// Returns the id that a body takes, or 0 if the body isn't among these.
 fn id_of(named: &NamedBodies<'_>, body: &[u8]) -> u8
     requires { length named.now.ids.items ≡ length named.now.bodies }
     ensures { result ≡ words.id_of_body (map (λ b. b.now) named.now.bodies) named.now.ids.items body.now }
@@ -73,7 +73,7 @@ fn id_of(named: &NamedBodies<'_>, body: &[u8]) -> u8
     0
 }
 
-/// The body of the adaptive loop filter of an id, where the picture has it.
+/// Returns the body of the adaptive loop filter with this id, if the picture has it.
 fn filter_body<'a>(picture: &Picture<'a>, id: u32) -> Option<&'a [u8]>
     ensures { option_copied result ≡ body_of picture.now types.ALF id }
 {
@@ -83,7 +83,7 @@ fn filter_body<'a>(picture: &Picture<'a>, id: u32) -> Option<&'a [u8]>
     picture.body(ALF, id as u8)
 }
 
-/// The id that the body takes which the picture has with this id.
+/// Returns the new id of the body that the picture has under this id.
 fn new_id(named: &NamedBodies<'_>, picture: &Picture<'_>, id: u32) -> u8
     requires { length named.now.ids.items ≡ length named.now.bodies }
     ensures { result ≡ spec.new_id named.now picture.now id }
@@ -94,7 +94,7 @@ fn new_id(named: &NamedBodies<'_>, picture: &Picture<'_>, id: u32) -> u8
     }
 }
 
-/// An item of a filter, with that id where it names a set.
+/// Returns an item of a filter, with the new id if it names a set.
 fn renamed(named: &NamedBodies<'_>, picture: &Picture<'_>, item: Item) -> Item
     requires { length named.now.ids.items ≡ length named.now.bodies }
     ensures { result ≡ spec.renamed named.now picture.now item }
@@ -108,7 +108,7 @@ fn renamed(named: &NamedBodies<'_>, picture: &Picture<'_>, item: Item) -> Item
     }
 }
 
-/// The filter among the items of a header, with the ids that its bodies take.
+/// Returns the filter among the items of a header, with the new ids of its bodies.
 fn renamed_filter(
     alloc: Global,
     named: &NamedBodies<'_>,
@@ -128,7 +128,7 @@ fn renamed_filter(
     Ok(made)
 }
 
-/// The filter in force of a slice, the picture header's or its own, with the ids that its bodies take.
+/// Returns the filter in force for a slice, the picture header's or its own, with the new ids of its bodies.
 pub(crate) fn filter_in(
     alloc: Global,
     named: &NamedBodies<'_>,
@@ -143,7 +143,7 @@ pub(crate) fn filter_in(
 
 // ---- what it uses
 
-/// Whether a slice uses what the picture header may enable.
+/// Returns whether a slice uses what the picture header may enable.
 fn is_used(picture: &Picture<'_>, slice: &SliceHeader, enabled: u16, used: u16) -> bool
     ensures { result ≡ inputs.is_used picture.now.header.fields slice.now enabled used }
 {
@@ -156,14 +156,14 @@ fn is_used(picture: &Picture<'_>, slice: &SliceHeader, enabled: u16, used: u16) 
 
 // ---- its QP
 
-/// The value of a field, and 0 where it is absent.
+/// Returns the value of a field, or 0 if it is absent.
 fn signed(items: &Fields, field: u16) -> i64
     ensures { result ≡ sets.signed items.now field }
 {
     items.first(field).unwrap_or(0)
 }
 
-/// ph_qp_delta or sh_qp_delta.
+/// Returns ph_qp_delta or sh_qp_delta.
 fn qp_delta(picture: &Picture<'_>, slice: &SliceHeader) -> i64
     ensures { result ≡ sets.qp_delta picture.now.pps picture.now.header.fields (read_of slice.now) }
 {
@@ -174,7 +174,7 @@ fn qp_delta(picture: &Picture<'_>, slice: &SliceHeader) -> i64
     }
 }
 
-/// A difference to one QP, as one to another.
+/// Returns a difference from `init` as a difference from `first`.
 fn moved(init: i64, delta: i64, first: i64) -> i64
     requires low { neg_ℤ (pos 12) ≤ℤ ((init +ℤ delta) +ℤ pos 26) }
     requires high { ((init +ℤ delta) +ℤ pos 26) ≤ℤ pos 63 }
@@ -187,7 +187,7 @@ fn moved(init: i64, delta: i64, first: i64) -> i64
     init + delta - first
 }
 
-/// The same number in fewer bits.
+/// Returns the same number in fewer bits.
 fn narrowed(delta: i64) -> i32
     requires { (neg_ℤ (pos 75) ≤ℤ delta) × (delta ≤ℤ pos 75) }
     ensures { result ≡ delta }
@@ -195,7 +195,7 @@ fn narrowed(delta: i64) -> i32
     delta as i32
 }
 
-/// The QP of a slice, as a difference to that of the first source's PPS.
+/// Returns the QP of a slice as a difference from that of the first source's PPS.
 fn moved_delta(first: &Picture<'_>, picture: &Picture<'_>, slice: &SliceHeader) -> i32
     requires { is_qp picture.now.sps (slice_qp picture.now.pps picture.now.header.fields (read_of slice.now)) ≡ true }
     ensures says { (pos 26 +ℤ sets.signed first.now.pps pps_fields.pps_init_qp_minus26) +ℤ result ≡ slice_qp picture.now.pps picture.now.header.fields (read_of slice.now) }
@@ -211,7 +211,7 @@ fn moved_delta(first: &Picture<'_>, picture: &Picture<'_>, slice: &SliceHeader) 
 
 // ---- all of it
 
-/// What the header of a slice says in the subpicture of an id, with this filter. Source 0's picture is the first one here.
+/// Returns what the header of a slice says in subpicture `id`, with this filter. `first` is source 0's picture.
 pub(crate) fn slice_shape<'a>(
     first: &Picture<'_>,
     picture: &Picture<'_>,

@@ -1,4 +1,4 @@
-//! The line that shows the fields of a set or header.
+//! The line of `show --fields` for the fields of a set or header.
 
 ghost use Rattle.std.specs.Prelude.{◌≡◌, ◌++◌, decimal, OnOk};
 ghost use Rattle.vx_report.specs.FieldsLine as line;
@@ -10,14 +10,13 @@ use vx_bits::{Fields, Item};
 use vx_fields::name_of;
 use vx_pic::{Structure, StructureFields};
 
-/// Puts the JSON line of the fields of a unit behind others, with a line feed:
-/// `{"bit":0,"fields":[["sps_seq_parameter_set_id",0],..],"structure":"SPS","unit":3}`. `unit` is the number of units before
-/// it. An adaptation parameter set has `"body":N` too, the bytes of its body where they are known, and a unit that is refused
-/// at a field `"refused":FIELD`. Nothing is put of a unit that is no set and no header.
+/// Appends the JSON line of the fields of a unit to `lines`, with a line feed. Appends nothing if the unit is no set and no header.
 ///
-/// # Errors
+/// A line: `{"bit":0,"fields":[["sps_seq_parameter_set_id",0],..],"structure":"SPS","unit":3}`. `unit` is the number of units before it.
+/// An adaptation parameter set also has `"body":N`, the bytes of its body, if they are known. A unit that is refused at a field also has
+/// `"refused":FIELD`.
 ///
-/// Where memory runs out; a part of the line may then stand behind the others.
+/// *Errors:* [`AllocError`] if memory runs out; a part of the line may then be appended.
 #[tactic(auto, unfolding(crate::specs::FieldsLine::fields_text))]
 pub fn fields_line(
     lines: &mut Vec<u8>,
@@ -33,7 +32,7 @@ pub fn fields_line(
     }
 }
 
-/// The line of a structure.
+/// Appends the line of a structure.
 fn put_line(
     lines: &mut Vec<u8>,
     unit: u64,
@@ -50,7 +49,7 @@ fn put_line(
     Ok(())
 }
 
-/// What stands before the fields.
+/// Appends what comes before the fields.
 fn put_start(lines: &mut Vec<u8>, body: Option<usize>) -> Result<(), AllocError>
     ensures { OnOk result (lines.new.items ≡ lines.old.items ++ line.start_json body) }
 {
@@ -60,7 +59,7 @@ fn put_start(lines: &mut Vec<u8>, body: Option<usize>) -> Result<(), AllocError>
     Ok(())
 }
 
-/// How many bytes the body has.
+/// Appends how many bytes the body has.
 fn put_body(lines: &mut Vec<u8>, body: Option<usize>) -> Result<(), AllocError>
     ensures { OnOk result (lines.new.items ≡ lines.old.items ++ line.body_json body) }
 {
@@ -70,7 +69,7 @@ fn put_body(lines: &mut Vec<u8>, body: Option<usize>) -> Result<(), AllocError>
     }
 }
 
-/// The fields, with commas between them.
+/// Appends the fields, with commas between them.
 #[tactic(auto, using(crate::proofs::FieldsText::items_none, crate::proofs::FieldsText::items_first, crate::proofs::FieldsText::items_on, crate::proofs::FieldsText::items_all))]
 fn put_items(lines: &mut Vec<u8>, items: &Fields) -> Result<(), AllocError>
     ensures { OnOk result (lines.new.items ≡ lines.old.items ++ line.items_json items.now) }
@@ -86,7 +85,7 @@ fn put_items(lines: &mut Vec<u8>, items: &Fields) -> Result<(), AllocError>
     Ok(())
 }
 
-/// A field and its value.
+/// Appends a field and its value.
 fn put_item(lines: &mut Vec<u8>, item: Item) -> Result<(), AllocError>
     ensures { OnOk result (lines.new.items ≡ lines.old.items ++ line.item_json item) }
 {
@@ -99,7 +98,7 @@ fn put_item(lines: &mut Vec<u8>, item: Item) -> Result<(), AllocError>
     Ok(())
 }
 
-/// What stands behind the fields.
+/// Appends what comes after the fields.
 fn put_end(
     lines: &mut Vec<u8>,
     refused: Option<u16>,
@@ -117,7 +116,7 @@ fn put_end(
     Ok(())
 }
 
-/// The field that is refused.
+/// Appends the field that is refused, if there is one.
 fn put_refused(lines: &mut Vec<u8>, refused: Option<u16>) -> Result<(), AllocError>
     ensures { OnOk result (lines.new.items ≡ lines.old.items ++ line.refused_json refused) }
 {
@@ -127,7 +126,7 @@ fn put_refused(lines: &mut Vec<u8>, refused: Option<u16>) -> Result<(), AllocErr
     }
 }
 
-/// A number behind a text.
+/// Appends a text and a number.
 fn put_number(lines: &mut Vec<u8>, before: &[u8], number: u64) -> Result<(), AllocError>
     ensures { OnOk result (lines.new.items ≡ lines.old.items ++ (before.now ++ decimal number)) }
 {
@@ -136,7 +135,7 @@ fn put_number(lines: &mut Vec<u8>, before: &[u8], number: u64) -> Result<(), All
     lines.extend_from_slice(buffer.format(number).as_bytes())
 }
 
-/// The word for a structure.
+/// Returns the word for a structure.
 fn word_of(structure: Structure) -> &'static str
     ensures { result.now ≡ line.structure_word structure }
 {

@@ -1,4 +1,4 @@
-//! The line that shows a picture.
+//! The line of `show` for a picture.
 
 ghost use Rattle.std.specs.Prelude.{◌≡◌, string_bytes, IfOk};
 ghost use Rattle.serde_json.specs.View.{view};
@@ -8,10 +8,10 @@ use serde_json::{Value, json};
 use std::alloc::{AllocError, Global};
 use vx_pic::Picture;
 
-/// What is shown of a picture.
+/// The numbers that `show` prints of a picture.
 #[derive(Clone, Copy, Debug, PartialEq, Eq)]
 pub struct PictureNumbers {
-    /// How many pictures were done before it.
+    /// How many pictures came before it.
     pub picture: u64,
     /// Whether it starts a coded layer video sequence.
     pub clvss: bool,
@@ -27,7 +27,7 @@ impl PictureNumbers {
     ghost use Rattle.std.specs.Prelude.{◌≡◌};
     ghost use Rattle.vx_report.specs.PictureLine.{picture_numbers};
 
-    /// What is shown of a picture before which so many were done.
+    /// Returns the numbers of a picture, before which there were `before`.
     pub fn of(before: u64, picture: &Picture<'_>) -> PictureNumbers
         ensures { result ≡ picture_numbers before picture.now }
     {
@@ -42,8 +42,10 @@ impl PictureNumbers {
     }
 }
 
-/// The JSON line of a picture: whether it starts a coded layer video sequence, its number, its
-/// picture order count, how many slices and subpictures it has, and a line feed.
+/// Makes the JSON line of a picture, with a line feed.
+///
+/// It has whether the picture starts a coded layer video sequence, its number, its picture order count, and its numbers of slices and
+/// subpictures. *Errors:* [`AllocError`] if memory runs out.
 pub fn picture_line(alloc: Global, picture: PictureNumbers) -> Result<Vec<u8>, AllocError>
     ensures { IfOk result (λ line. line.items ≡ picture_text picture) }
 {
@@ -52,7 +54,7 @@ pub fn picture_line(alloc: Global, picture: PictureNumbers) -> Result<Vec<u8>, A
     Ok(text.into_bytes())
 }
 
-/// The line without its line feed.
+/// Makes the line without its line feed.
 fn json_text(alloc: Global, picture: PictureNumbers) -> Result<String, AllocError>
     ensures { IfOk result (λ text. string_bytes text ≡ picture_json picture) }
 {
@@ -60,7 +62,7 @@ fn json_text(alloc: Global, picture: PictureNumbers) -> Result<String, AllocErro
     value.to_string(alloc)
 }
 
-/// The same as a JSON value.
+/// Makes the JSON value of a picture.
 fn picture_value(alloc: Global, picture: PictureNumbers) -> Result<Value, AllocError>
     ensures { IfOk result (λ value. view value ≡ picture_object picture) }
 {

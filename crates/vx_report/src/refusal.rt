@@ -18,21 +18,29 @@ use vx_pic::SPS;
 pub struct Where {
     /// The source, from 0.
     pub source: u16,
-    /// The NAL unit of that source, from 0; at its end, how many it has.
+    /// The NAL unit of that source, from 0; at its end, its number of units.
     pub unit: u64,
     /// The picture, from 0.
     pub picture: u64,
-    /// Whether the rule is one on what was to be written, not on what was read.
+    /// Whether the rule is about what was to be written, not about what was read.
     pub written: bool,
 }
 
-/// The line of a rule that a source breaks, with its line feed, by the rule's kind:
-/// `F3 source 0 byte 5`, `Y source 0 unit 0 field 22 bit 40 Short`, `P4 source 0 unit 3`,
-/// `L1 source 0 unit 3`, and `L3 source 0` of the whole source, `S4 source 0 unit 3`, with
-/// the set in `S1 source 0 unit 1 PPS 3` and the fault in `S12 source 0 unit 2 layout 3`; of a rule
-/// that an extraction breaks, `E2 picture 5`; of one that the pictures of a merge break, `M3 picture 5 source 1`,
-/// with the field in `M7 picture 5 source 1 field 439`; and of a limit on what is to be written, `L6 picture 5`, or on
-/// what the words name, `L4`.
+/// Makes the line of a broken rule, with its line feed.
+///
+/// | rule | line |
+/// |---|---|
+/// | framing | `F3 source 0 byte 5` |
+/// | syntax | `Y source 0 unit 0 field 22 bit 40 Short` |
+/// | profile | `P4 source 0 unit 3` |
+/// | structure | `S4 source 0 unit 3`, `S1 source 0 unit 1 PPS 3` with the set, `S12 source 0 unit 2 layout 3` with the fault |
+/// | limit on what is read | `L1 source 0 unit 3`, `L3 source 0` of a whole source |
+/// | limit on what is to be written | `L6 picture 5` |
+/// | limit on what the arguments name | `L4` |
+/// | extraction | `E2 picture 5` |
+/// | merging | `M3 picture 5 source 1`, `M7 picture 5 source 1 field 439` with the field |
+///
+/// *Errors:* [`AllocError`] if memory runs out.
 pub fn refusal_line(alloc: Global, refusal: Refusal, place: Where) -> Result<Vec<u8>, AllocError>
     ensures { IfOk result (λ line. line.items ≡ refusal_text refusal place) }
 {
@@ -74,7 +82,7 @@ fn syntax_line(
     )
 }
 
-/// The name of a cause.
+/// Returns the name of a cause.
 fn cause_word(cause: BitCause) -> &'static str
     ensures { result.now ≡ line.cause_word cause }
 {
@@ -108,7 +116,7 @@ fn limit_line(alloc: Global, code: u8, place: Where) -> Result<String, AllocErro
     }
 }
 
-/// Whether it is a limit on what the words name.
+/// Returns whether it is a limit on what the arguments name.
 fn is_of_words(code: u8) -> bool
     ensures { result ≡ line.is_of_words code }
 {
@@ -155,7 +163,7 @@ fn structure_line(
     }
 }
 
-/// The line of a rule on how units follow one another.
+/// Makes the line of a rule on the order of units.
 fn order_line(alloc: Global, code: u8, place: Where) -> Result<String, AllocError>
     ensures { IfOk result (λ text. string_bytes text ≡ line.refused_unit_text (codes "S") code place) }
 {
@@ -172,7 +180,7 @@ fn missing_line(alloc: Global, kind: u8, id: u8, place: Where) -> Result<String,
     )
 }
 
-/// The name of a kind of sets.
+/// Returns the name of a type of sets.
 fn set_word(kind: u8) -> &'static str
     ensures { result.now ≡ line.set_word kind }
 {
@@ -215,7 +223,7 @@ fn merge_line(
     round_line(alloc, code, source, place)
 }
 
-/// Whether the rule compares fields.
+/// Returns whether the rule compares fields.
 fn names_field(code: u8) -> bool
     ensures { result ≡ line.names_field code }
 {

@@ -1,4 +1,4 @@
-//! The line that shows a parameter set.
+//! The line of `show` for a parameter set.
 
 ghost use Rattle.std.specs.Prelude.{◌≡◌, string_bytes, IfOk};
 ghost use Rattle.serde_json.specs.View.{view};
@@ -18,18 +18,17 @@ use vx_pps::Pps;
 use vx_sps::Sps;
 use vx_table::Scope;
 
-/// What is shown of a parameter set.
+/// The numbers that `show` prints of a parameter set.
 #[derive(Clone, Copy, Debug, PartialEq, Eq)]
 pub enum SetNumbers {
-    /// A video parameter set: vps_video_parameter_set_id, and how many layers and sublayers it
-    /// says there are at most.
+    /// A video parameter set: vps_video_parameter_set_id, and the maximum numbers of layers and sublayers that it states.
     Vps {
         id: u32,
         layers: u64,
         sublayers: u64,
     },
-    /// A sequence parameter set: sps_seq_parameter_set_id, the size of the largest picture and of
-    /// a CTU in luma samples, and the number of subpictures.
+    /// A sequence parameter set: sps_seq_parameter_set_id, the maximum size of a picture and the size of a CTU in luma samples, and the
+    /// number of subpictures.
     Sps {
         id: u32,
         width: u32,
@@ -37,8 +36,8 @@ pub enum SetNumbers {
         ctu: u32,
         subpictures: u32,
     },
-    /// A picture parameter set: pps_pic_parameter_set_id, the id of its SPS, the number of tile
-    /// columns and tile rows, and the number of slices, 0 where each subpicture is one.
+    /// A picture parameter set: pps_pic_parameter_set_id, the id of its SPS, its numbers of tile columns and tile rows, and its number of
+    /// slices, or 0 if each subpicture is one.
     Pps {
         id: u32,
         sps: u32,
@@ -57,7 +56,7 @@ impl SetNumbers {
     ghost use Rattle.std.specs.Prelude.{◌≡◌};
     ghost use Rattle.vx_report.specs.SetLine as line;
 
-    /// What is shown of the video parameter set with these items.
+    /// Returns the numbers of the video parameter set with these items.
     pub fn of_vps(fields: &Fields) -> SetNumbers
         ensures { result ≡ line.vps_numbers fields.now }
     {
@@ -70,7 +69,7 @@ impl SetNumbers {
         }
     }
 
-    /// What is shown of a sequence parameter set.
+    /// Returns the numbers of a sequence parameter set.
     #[tactic(auto, unfolding(vx_pic::specs::Sets::sps_id))]
     pub fn of_sps(sps: &Sps) -> SetNumbers
         ensures { result ≡ line.sps_numbers sps.now }
@@ -84,7 +83,7 @@ impl SetNumbers {
         }
     }
 
-    /// What is shown of a picture parameter set.
+    /// Returns the numbers of a picture parameter set.
     #[tactic(auto, unfolding(vx_pic::specs::Sets::pps_id, vx_pic::specs::Sets::referred_sps))]
     pub fn of_pps(pps: &Pps) -> SetNumbers
         ensures { result ≡ line.pps_numbers pps.now }
@@ -99,7 +98,7 @@ impl SetNumbers {
     }
 }
 
-/// NumTileColumns (H.266 6.5.1).
+/// Returns NumTileColumns (H.266 6.5.1).
 fn tile_columns(pps: &Pps) -> u64
     ensures { result ≡ line.tile_columns pps.now }
 {
@@ -109,7 +108,7 @@ fn tile_columns(pps: &Pps) -> u64
     (pps.columns().len() as u64).saturating_sub(1)
 }
 
-/// NumTileRows (H.266 6.5.1).
+/// Returns NumTileRows (H.266 6.5.1).
 fn tile_rows(pps: &Pps) -> u64
     ensures { result ≡ line.tile_rows pps.now }
 {
@@ -119,7 +118,7 @@ fn tile_rows(pps: &Pps) -> u64
     (pps.rows().len() as u64).saturating_sub(1)
 }
 
-/// The slices of a picture, 0 where each subpicture is one.
+/// Returns the number of slices of a picture, or 0 if each subpicture is one.
 fn listed_slices(pps: &Pps) -> u64
     ensures { result ≡ line.listed_slice_count pps.now }
 {
@@ -130,10 +129,10 @@ fn listed_slices(pps: &Pps) -> u64
     u64::from(scope.latest(pps_num_slices_in_pic_minus1)) + 1
 }
 
-/// The JSON line of a parameter set, by its kind, and a line feed:
-/// `{"layers":1,"sublayers":1,"vps":0}`,
-/// `{"ctu":64,"height":64,"sps":0,"subpictures":1,"width":64}`,
-/// `{"columns":1,"pps":0,"rows":1,"slices":1,"sps":0}`, `{"aps":3,"kind":0}`.
+/// Makes the JSON line of a parameter set, by its type, with a line feed.
+///
+/// The lines: `{"layers":1,"sublayers":1,"vps":0}`, `{"ctu":64,"height":64,"sps":0,"subpictures":1,"width":64}`,
+/// `{"columns":1,"pps":0,"rows":1,"slices":1,"sps":0}`, `{"aps":3,"kind":0}`. *Errors:* [`AllocError`] if memory runs out.
 pub fn set_line(alloc: Global, numbers: SetNumbers) -> Result<Vec<u8>, AllocError>
     ensures { IfOk result (λ line. line.items ≡ set_text numbers) }
 {
@@ -142,7 +141,7 @@ pub fn set_line(alloc: Global, numbers: SetNumbers) -> Result<Vec<u8>, AllocErro
     Ok(text.into_bytes())
 }
 
-/// The line without its line feed.
+/// Makes the line without its line feed.
 fn json_text(alloc: Global, numbers: SetNumbers) -> Result<String, AllocError>
     ensures { IfOk result (λ text. string_bytes text ≡ set_json numbers) }
 {

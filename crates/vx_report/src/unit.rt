@@ -1,4 +1,4 @@
-//! The line that shows a NAL unit.
+//! The line of `show` for a NAL unit.
 
 ghost use Rattle.std.specs.Prelude.{◌≡◌, string_bytes, IfOk};
 ghost use Rattle.serde_json.specs.View.{view};
@@ -8,9 +8,10 @@ use serde_json::{Value, json};
 use std::alloc::{AllocError, Global};
 use vx_annexb::NalHeader;
 
-/// The JSON line of a NAL unit: its length in bytes, the place of its first
-/// byte in the byte stream, its TemporalId and its nal_unit_type, and a line
-/// feed.
+/// Makes the JSON line of a NAL unit, with a line feed.
+///
+/// It has the unit's length in bytes, the offset of its first byte in the byte stream, its TemporalId and its nal_unit_type. *Errors:*
+/// [`AllocError`] if memory runs out.
 pub fn unit_line(
     alloc: Global,
     header: NalHeader,
@@ -24,7 +25,7 @@ pub fn unit_line(
     Ok(text.into_bytes())
 }
 
-/// The line without its line feed.
+/// Makes the line without its line feed.
 fn json_text(
     alloc: Global,
     header: NalHeader,
@@ -37,7 +38,7 @@ fn json_text(
     value.to_string(alloc)
 }
 
-/// The same as a JSON value.
+/// Makes the JSON value of a unit.
 fn unit_value(
     alloc: Global,
     header: NalHeader,
