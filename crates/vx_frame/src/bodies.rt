@@ -1,4 +1,4 @@
-//! What the rules on pictures, and what is sent, need of the adaptation parameter sets of a round, found once.
+//! What the rules on pictures, and the sets that are sent, need of the adaptation parameter sets of a round.
 ghost use Rattle.std.specs.Prelude.{◌≤◌, length, IfOk};
 ghost use Rattle.vx_frame.specs.inner.Gathered.{AreGathered};
 
@@ -7,7 +7,7 @@ use crate::headers::{lowest_with_lmcs, lowest_with_scaling};
 use std::alloc::{AllocError, Global};
 use vx_pic::Picture;
 
-/// What the pictures of a round have of adaptation parameter sets.
+/// What the pictures of a round use of adaptation parameter sets.
 #[derive(Drop)]
 pub struct RoundBodies<'a> {
     /// The adaptive loop filters in force in slices.
@@ -18,11 +18,9 @@ pub struct RoundBodies<'a> {
     pub scaling: Option<u16>,
 }
 
-/// What the pictures of a round have of adaptation parameter sets.
+/// Collects what the pictures of a round use of adaptation parameter sets.
 ///
-/// # Errors
-///
-/// Want of memory.
+/// *Errors:* [`AllocError`] if memory runs out.
 pub fn round_bodies<'a>(alloc: Global, round: &[Picture<'a>]) -> Result<RoundBodies<'a>, AllocError>
     requires { length round.now ≤ 64 }
     ensures { IfOk result (AreGathered round.now) }

@@ -21,7 +21,7 @@ use vx_layout::Numbers;
 use vx_pic::{Picture, several_slices, several_tiles};
 use vx_write::in_pps;
 
-/// What a picture may have several of, with borders that in-loop filters may cross.
+/// Pieces of a picture whose borders in-loop filters may cross.
 #[derive(Clone, Copy)]
 pub(crate) enum Pieces {
     /// Tiles.
@@ -30,7 +30,7 @@ pub(crate) enum Pieces {
     Slices,
 }
 
-/// Whether in-loop filters cross the borders of such pieces.
+/// Returns whether in-loop filters cross the borders of such pieces.
 fn crosses(picture: &Picture<'_>, pieces: Pieces) -> bool
     ensures { result ≡ borders.crosses pieces picture.now }
 {
@@ -40,7 +40,7 @@ fn crosses(picture: &Picture<'_>, pieces: Pieces) -> bool
     }
 }
 
-/// Whether a source has several.
+/// Returns whether source `k` has several such pieces.
 pub(crate) fn has_pieces(
     _round: &[Picture<'_>],
     layouts: &[Numbers],
@@ -57,7 +57,7 @@ pub(crate) fn has_pieces(
     }
 }
 
-/// The lowest source with several.
+/// Returns the lowest source with several such pieces.
 fn lowest_with_several(round: &[Picture<'_>], layouts: &[Numbers], pieces: Pieces) -> Option<u16>
     requires few { length round.now ≤ 64 }
     requires layouts { layouts.now ≡ regions.layouts_in round.now }
@@ -66,7 +66,7 @@ fn lowest_with_several(round: &[Picture<'_>], layouts: &[Numbers], pieces: Piece
     lowest_with(round, Sought::Several { pieces, layouts })
 }
 
-/// Whether in-loop filters cross their borders in the lowest picture with several.
+/// Returns whether in-loop filters cross their borders in the lowest source with several.
 pub(crate) fn lowest_crosses(round: &[Picture<'_>], layouts: &[Numbers], pieces: Pieces) -> bool
     requires few { length round.now ≤ 64 }
     requires layouts { layouts.now ≡ regions.layouts_in round.now }
@@ -78,7 +78,7 @@ pub(crate) fn lowest_crosses(round: &[Picture<'_>], layouts: &[Numbers], pieces:
     }
 }
 
-/// Whether a source has several, and filters cross their borders otherwise than in the lowest source with several.
+/// Returns whether source `k` has several, and filters cross their borders otherwise than in the lowest source with several.
 pub(crate) fn crosses_otherwise(
     round: &[Picture<'_>],
     layouts: &[Numbers],
@@ -101,7 +101,7 @@ pub(crate) fn crosses_otherwise(
     crosses(&round[k], pieces) != crosses(&round[usize::from(j)], pieces)
 }
 
-/// The lowest source in which filters cross borders otherwise.
+/// Returns the lowest source in which filters cross borders otherwise.
 fn lowest_crossed_otherwise(round: &[Picture<'_>], layouts: &[Numbers]) -> Option<u16>
     requires few { length round.now ≤ 64 }
     requires layouts { layouts.now ≡ regions.layouts_in round.now }
@@ -119,7 +119,7 @@ fn lowest_crossed_otherwise(round: &[Picture<'_>], layouts: &[Numbers]) -> Optio
     )
 }
 
-/// Whether filters cross borders in one source otherwise than in another.
+/// Returns the refusal of a source in which filters cross borders otherwise than in another.
 pub(crate) fn filter_flags(round: &[Picture<'_>], layouts: &[Numbers]) -> Option<Refusal>
     requires few { length round.now ≤ 64 }
     requires layouts { layouts.now ≡ regions.layouts_in round.now }

@@ -15,19 +15,19 @@ use vx_table::natural;
 /// The type of I slices.
 const I: u32 = 2;
 
-/// What an entry of a reference picture list tells of its picture (H.266 8.3.2).
+/// What an entry of a reference picture list states about its picture (H.266 8.3.2).
 #[derive(Clone, Copy, Debug, PartialEq, Eq)]
 pub enum Collocated {
-    /// How far its order count is from the picture's own.
+    /// The difference of its picture order count from the picture's own.
     Nearby(i64),
-    /// The low bits of its order count, and where it is told, how many cycles of them its picture is behind
-    /// (DeltaPocMsbCycleLt, H.266 7.4.10).
+    /// The low bits of its picture order count; and if stated, by how many cycles of these it precedes (DeltaPocMsbCycleLt, H.266
+    /// 7.4.10).
     Distant(u32, Option<u64>),
     /// There is no such entry.
     Absent,
 }
 
-/// DeltaPocValSt of a short-term entry (H.266 7.4.11), and 0 for a long-term one.
+/// Returns DeltaPocValSt of a short-term entry (H.266 7.4.11), and 0 for a long-term one.
 fn delta_of(entry: RefEntry) -> i64
     ensures value { result ≡ words.delta_of entry }
     ensures low { neg_ℤ (pos 4294967295) ≤ℤ result }
@@ -40,7 +40,7 @@ fn delta_of(entry: RefEntry) -> i64
     }
 }
 
-/// The sum of those of the first entries of a list.
+/// Returns the sum of these of the first `count` entries.
 #[tactic(auto, using(crate::proofs::Deltas::delta_more))]
 fn delta_to(list: &RefList, count: usize) -> i64
     requires within { count ≤ length list.now }
@@ -54,7 +54,7 @@ fn delta_to(list: &RefList, count: usize) -> i64
     sum
 }
 
-/// delta_poc_msb_cycle_lt of an entry, and 0 where it is absent.
+/// Returns delta_poc_msb_cycle_lt of an entry, and 0 if it is absent.
 fn cycles_of(entry: RefEntry) -> u64
     ensures value { result ≡ words.cycles_of entry }
     ensures high { result ≤ 4294967295 }
@@ -68,7 +68,7 @@ fn cycles_of(entry: RefEntry) -> u64
     }
 }
 
-/// The sum of those of the first entries of a list.
+/// Returns the sum of these of the first `count` entries.
 fn cycles_to(list: &RefList, count: usize) -> u64
     requires within { count ≤ length list.now }
     requires few { count ≤ 29 }
@@ -81,7 +81,7 @@ fn cycles_to(list: &RefList, count: usize) -> u64
     sum
 }
 
-/// What the entry at an index of a list tells.
+/// Returns what entry `i` of a list states.
 fn told_at(list: &RefList, i: u32) -> Collocated
     ensures { result ≡ words.told_at list.now i }
 {
@@ -99,14 +99,14 @@ fn told_at(list: &RefList, i: u32) -> Collocated
     }
 }
 
-/// The number of a field of a header, and another where it is absent.
+/// Returns the number of a field of a header, and `absent` if there is none.
 fn number_or(absent: u32, items: &Fields, field: u16) -> u32
     ensures { result ≡ words.number_or absent items.now field }
 {
     natural(items.first(field).unwrap_or(i64::from(absent)))
 }
 
-/// Whether slices of a picture may name a collocated picture.
+/// Returns whether slices of a picture may name a collocated picture.
 pub(crate) fn may_name(picture: &Picture<'_>) -> bool
     ensures { result ≡ words.may_name picture.now }
 {
@@ -116,14 +116,14 @@ pub(crate) fn may_name(picture: &Picture<'_>) -> bool
     header_number(picture, ph_temporal_mvp_enabled_flag) != 0
 }
 
-/// Whether a slice of such a picture names one.
+/// Returns whether a slice of such a picture names one.
 pub(crate) fn names_one(header: &SliceHeader) -> bool
     ensures { result ≡ words.names_one header.now }
 {
     number_or(I, &header.fields, sh_slice_type) != I
 }
 
-/// What is told of the one that a slice names.
+/// Returns what is stated about the collocated picture that a slice names.
 pub(crate) fn collocated_of<'a>(picture: &Picture<'a>, header: &'a SliceHeader) -> Collocated
     ensures { result ≡ words.collocated_of picture.now header.now }
 {

@@ -3,8 +3,8 @@
 /// The upper left corner of a region, in luma samples.
 #[derive(Clone, Copy, Debug, PartialEq, Eq)]
 pub struct Corner {
-    /// The column of its left samples.
+    /// The column of the region's left samples.
     pub x: u32,
-    /// The row of its upper samples.
+    /// The row of the region's upper samples.
     pub y: u32,
 }

@@ -1,4 +1,4 @@
-//! The bodies of adaptive loop filters that slices have in force.
+//! The bodies of adaptive loop filters that are in force in slices.
 ghost use Rattle.std.specs.Prelude.{◌≡◌, ◌<◌, ◌≤◌, ◌∷◌, [], List, length, map, option_copied, option_to_list, IfOk, OnOk};
 ghost use Rattle.std.specs.Bool.{OnTrue, OnFalse};
 ghost use Rattle.vx_pic.specs.Inputs.{alf_of};
@@ -18,26 +18,26 @@ use vx_bits::{BodyList, Fields, Refusal};
 use vx_fields::alf::{alf_aps_id_chroma, alf_cc_cb_aps_id, alf_cc_cr_aps_id};
 use vx_pic::{Picture, body_named, filter_fields, luma_bodies};
 
-/// The ids of adaptive loop filters.
+/// How many ids adaptive loop filters have.
 const MOST_FILTERS: usize = 8;
 
-/// The bodies of the adaptive loop filters in force in the slices of a round, as far as they were gathered.
+/// The bodies of the adaptive loop filters in force in the slices of a round, as far as they were collected.
 #[derive(Drop)]
 pub struct RoundFilters<'a> {
-    /// Each once: those of all sources, or up to the lowest source with which there are too many.
+    /// Each body once: those of all sources, or of the sources up to `too_many`.
     pub bodies: BodyList<'a>,
-    /// That source, where there are more of them than ids.
+    /// The lowest source with which there are more bodies than ids, if there is one.
     pub too_many: Option<u16>,
 }
 
-/// Whether two byte strings are the same.
+/// Returns whether two byte strings are equal.
 pub fn same_bytes(a: &[u8], b: &[u8]) -> bool
     ensures { result ≡ resident.same_bytes a.now b.now }
 {
     a == b
 }
 
-/// Whether a body is among others.
+/// Returns whether a body is in the list.
 fn is_among(body: &[u8], bodies: &BodyList<'_>) -> bool
     ensures { result ≡ words.is_among body.now (map (λ b. b.now) bodies.now) }
 {
@@ -49,7 +49,7 @@ fn is_among(body: &[u8], bodies: &BodyList<'_>) -> bool
     false
 }
 
-/// Adds a body, where it isn't among them.
+/// Appends a body, unless it is in the list.
 fn add<'a>(bodies: &mut BodyList<'a>, body: &'a [u8]) -> Result<(), AllocError>
     ensures { OnOk result (map (λ b. b.now) bodies.new ≡ words.with_body (map (λ b. b.now) bodies.old) body.now) }
 {
@@ -59,7 +59,7 @@ fn add<'a>(bodies: &mut BodyList<'a>, body: &'a [u8]) -> Result<(), AllocError>
     bodies.push(body)
 }
 
-/// Adds a body, where there is one.
+/// Appends a body, if there is one.
 fn add_some<'a>(bodies: &mut BodyList<'a>, body: Option<&'a [u8]>) -> Result<(), AllocError>
     ensures { OnOk result (map (λ b. b.now) bodies.new ≡ words.with_bodies (map (λ b. b.now) bodies.old) (option_to_list (option_copied body.entry))) }
 {
@@ -69,7 +69,7 @@ fn add_some<'a>(bodies: &mut BodyList<'a>, body: Option<&'a [u8]>) -> Result<(),
     }
 }
 
-/// Adds each of some bodies.
+/// Appends several bodies.
 fn add_all<'a>(bodies: &mut BodyList<'a>, more: &BodyList<'a>) -> Result<(), AllocError>
     ensures { OnOk result (map (λ b. b.now) bodies.new ≡ words.with_bodies (map (λ b. b.now) bodies.old) (map (λ b. b.now) more.now)) }
 {
@@ -79,7 +79,7 @@ fn add_all<'a>(bodies: &mut BodyList<'a>, more: &BodyList<'a>) -> Result<(), All
     Ok(())
 }
 
-/// Adds those for luma that a header names.
+/// Appends the bodies for luma that a header names.
 fn add_luma<'a>(
     alloc: Global,
     bodies: &mut BodyList<'a>,
@@ -92,7 +92,7 @@ fn add_luma<'a>(
     add_all(bodies, &luma)
 }
 
-/// Adds those of a slice.
+/// Appends the bodies of a slice.
 fn add_slice<'a>(
     alloc: Global,
     bodies: &mut BodyList<'a>,
@@ -110,7 +110,7 @@ fn add_slice<'a>(
     add_some(bodies, body_named(picture, ALF, alf_cc_cr_aps_id, items))
 }
 
-/// Adds those of a picture's slices.
+/// Appends the bodies of a picture's slices.
 fn add_picture<'a>(
     alloc: Global,
     bodies: &mut BodyList<'a>,
@@ -124,7 +124,7 @@ fn add_picture<'a>(
     Ok(())
 }
 
-/// Whether there are more of these than ids.
+/// Returns whether there are more bodies than ids.
 fn are_too_many(bodies: &BodyList<'_>) -> bool
     ensures many { OnTrue result (alf_slots < length bodies.now) }
     ensures few { OnFalse result (¬ (alf_slots < length bodies.now)) }
@@ -132,7 +132,7 @@ fn are_too_many(bodies: &BodyList<'_>) -> bool
     MOST_FILTERS < bodies.len()
 }
 
-/// The bodies of the adaptive loop filters in force in the slices of a round.
+/// Collects the bodies of the adaptive loop filters in force in the slices of a round.
 pub(crate) fn round_filters<'a>(
     alloc: Global,
     round: &[Picture<'a>],
@@ -156,7 +156,7 @@ pub(crate) fn round_filters<'a>(
     })
 }
 
-/// Whether the slices of a round with these filters have more bodies of adaptive loop filters than there are ids.
+/// Returns the refusal of a round with more bodies of adaptive loop filters than there are ids.
 pub(crate) fn too_many_filters(filters: &RoundFilters<'_>) -> Option<Refusal>
     ensures { (round : List Parts) → AreFilters round filters.now → Finds (length round) (rules.too_many_filters round ∷ []) result }
 {

@@ -1,4 +1,4 @@
-//! The frame of a round: what is made of its sets alone, and kept for rounds with the same sets.
+//! The frame of a round, made from its sets and kept for later rounds with the same sets.
 ghost use Rattle.std.specs.Prelude.{◌≡◌, ◌≢◌, ◌<◌, ◌++◌, ◌∷◌, [], All, List, Option, ℕ, length, map, IfOk, IfSome, OnOk};
 ghost use Rattle.std.specs.Bool.{OnTrue};
 ghost use Rattle.vx_layout.specs.Faults.{IsInLimits, IsLayout};
@@ -23,64 +23,67 @@ use vx_pps::Pps;
 use vx_sps::Sps;
 use vx_write::{WriteError, sets_in_force};
 
-/// The frame's PPS with another id than 0.
+/// The frame's PPS under an id other than 0.
 #[derive(Drop)]
 pub(crate) struct RenamedPps {
-    /// Its id.
+    /// The id.
     pub(crate) id: u8,
     /// The PPS.
     pub(crate) pps: Pps,
 }
 
-/// The frame of a round, made of its sets alone: kept as long as these stay.
+/// The frame of a round, made from its sets; it is kept as long as they stay the same.
+///
+/// Its SPS and PPS are rewritten from source 0's: the frame's size and window, the level asked for or else the highest of the sources,
+/// the greatest DPB numbers, each region as a subpicture whose id is its index, and the tiles and slices of all pictures.
 #[derive(Drop)]
 pub struct Frame {
     /// The key of each source's sets.
     pub(crate) sources: Vec<SetsKey>,
-    /// Its geometry.
+    /// The geometry of the frame.
     pub geometry: FrameGeometry,
-    /// Its layout.
+    /// The layout of the frame.
     pub layout: Layout,
-    /// Its SPS, of id 0.
+    /// The frame's SPS, with id 0.
     pub sps: Sps,
-    /// Its PPS with the id 0.
+    /// The frame's PPS under the id 0.
     pub plain: Pps,
-    /// Its PPS with the last other id that it took.
+    /// The frame's PPS under the last other id that it took.
     pub(crate) renamed: Option<RenamedPps>,
 }
 
-/// What there is of the frame of a round whose sets break no rule on them.
+/// The frame of a round whose sets break no rule, as far as it is made.
 #[derive(Drop)]
 pub(crate) enum RoundFrame {
-    /// It was kept, and made of the same sets.
+    /// A frame that was kept, made for the same sets.
     Kept(Box<Frame>),
-    /// It is new, and has this geometry.
+    /// A new frame, with this geometry.
     New(FrameGeometry),
 }
 
 /// The sets of a frame.
 #[derive(Drop)]
 struct FrameSets {
-    /// Its SPS.
+    /// The frame's SPS.
     sps: Sps,
-    /// Its PPS with the id 0.
+    /// The frame's PPS under the id 0.
     plain: Pps,
 }
 
-/// What a frame has beside its geometry.
+/// What a frame has besides its geometry.
 #[derive(Drop)]
 struct FrameParts {
     /// The key of each source's sets.
     sources: Vec<SetsKey>,
-    /// Its layout.
+    /// The layout of the frame.
     layout: Layout,
-    /// Its sets.
+    /// The sets of the frame.
     sets: FrameSets,
 }
 
 // ---- the sets of a round
 
-/// Adds the key of a picture's sets.
+/// Appends the key of a picture's sets.
 fn add_sets(
     alloc: Global,
     sources: &mut Vec<SetsKey>,
@@ -94,7 +97,7 @@ fn add_sets(
     Ok(())
 }
 
-/// The key of each picture's sets.
+/// Returns the key of each picture's sets.
 fn sources(alloc: Global, round: &[Picture<'_>]) -> Result<Vec<SetsKey>, AllocError>
     requires { All AreInForce round.now }
     ensures { IfOk result (λ own. AreSetsOf round.now own.items) }
@@ -106,17 +109,17 @@ fn sources(alloc: Global, round: &[Picture<'_>]) -> Result<Vec<SetsKey>, AllocEr
     Ok(sources)
 }
 
-/// Whether a picture has these sets.
+/// Returns whether a picture has these sets.
 fn has_sets(picture: &Picture<'_>, own: &SetsKey) -> bool
     ensures same { OnTrue result (words.sets_in own.now ≡ words.sets_of picture.now) }
     ensures sets { AreInForce picture.now }
 {
-    // It reads nothing: what is known of a picture is told by its calls alone.
+    // This reads nothing: contracts learn about a picture only from its calls.
     sets_in_force(picture);
     own.is_of(picture.sps(), picture.pps())
 }
 
-/// Whether the pictures of a round have these sets.
+/// Returns whether the pictures of a round have these sets.
 fn have_sets(round: &[Picture<'_>], sources: &[SetsKey]) -> bool
     requires { length sources.now ≡ length round.now }
     ensures same { OnTrue result (AreSetsOf round.now sources.now) }
@@ -132,7 +135,7 @@ fn have_sets(round: &[Picture<'_>], sources: &[SetsKey]) -> bool
 
 // ---- what the rules on sets leave
 
-/// A new frame.
+/// Makes the beginning of a new frame.
 fn new_frame(
     alloc: Global,
     corners: &[Corner],
@@ -146,11 +149,9 @@ fn new_frame(
     Ok(RoundFrame::New(geometry))
 }
 
-/// The frame of a round: the one that was kept, where it was made of the same sets, or else a new one.
+/// Returns the kept frame if it was made for the same sets, and the beginning of a new one otherwise.
 ///
-/// # Errors
-///
-/// The first rule that the sets break, or want of memory.
+/// *Errors:* the first rule that the sets break, or lack of memory.
 pub(crate) fn round_frame(
     alloc: Global,
     corners: &[Corner],
@@ -177,7 +178,7 @@ pub(crate) fn round_frame(
 
 // ---- what is made of them
 
-/// The layout of a frame.
+/// Makes the layout of a frame.
 fn layout_of(alloc: Global, geometry: &FrameGeometry) -> Result<Layout, AllocError>
     requires layout { IsLayout geometry.now.numbers }
     requires limits { IsInLimits geometry.now.numbers }
@@ -191,7 +192,7 @@ fn layout_of(alloc: Global, geometry: &FrameGeometry) -> Result<Layout, AllocErr
     }
 }
 
-/// The SPS of a frame, at a level, or at the highest of its pictures, and its PPS with the id 0.
+/// Makes the SPS of a frame, with this level or the highest of its pictures, and its PPS under the id 0.
 fn sets_for(
     alloc: Global,
     round: &[Picture<'_>],
@@ -207,7 +208,7 @@ fn sets_for(
     Ok(FrameSets { sps, plain })
 }
 
-/// What the frame with a geometry has beside it.
+/// Makes what the frame with this geometry has besides it.
 fn parts_for(
     alloc: Global,
     round: &[Picture<'_>],
@@ -230,7 +231,7 @@ fn parts_for(
     })
 }
 
-/// The frame with a geometry.
+/// Makes the frame with this geometry.
 #[cold]
 #[inline(never)]
 fn frame_with(
@@ -258,7 +259,7 @@ fn frame_with(
     Ok(Box::new(alloc, frame)?)
 }
 
-/// The frame of a round.
+/// Returns the kept frame, or finishes the new one.
 pub(crate) fn whole_frame(
     alloc: Global,
     level: Option<u8>,
@@ -276,7 +277,7 @@ pub(crate) fn whole_frame(
 
 // ---- its PPS under an id
 
-/// Whether this is the PPS with an id.
+/// Returns whether this is the PPS under an id.
 fn is_renamed(renamed: &Option<RenamedPps>, id: u8) -> bool
     ensures { result ≡ words.is_renamed renamed.now id }
 {
@@ -286,7 +287,7 @@ fn is_renamed(renamed: &Option<RenamedPps>, id: u8) -> bool
     }
 }
 
-/// Makes its PPS under an id.
+/// Makes the frame's PPS under an id.
 #[cold]
 #[inline(never)]
 fn rename_pps(
@@ -306,11 +307,9 @@ fn rename_pps(
     Ok(())
 }
 
-/// Has a frame's PPS under an id, made anew unless it is there.
+/// Makes the frame's PPS under `id`, unless it is there.
 ///
-/// # Errors
-///
-/// Want of memory.
+/// *Errors:* [`AllocError`] if memory runs out.
 pub fn have_pps(
     alloc: Global,
     frame: &mut Frame,
@@ -328,7 +327,7 @@ pub fn have_pps(
     rename_pps(alloc, frame, round, id)
 }
 
-/// A frame's PPS under an id that it has.
+/// Returns the frame's PPS under an id that it has.
 pub fn pps_under(frame: &Frame, id: u8) -> &Pps
     ensures { result.now ≡ words.pps_under frame.now id }
 {

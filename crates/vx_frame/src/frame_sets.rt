@@ -15,7 +15,7 @@ use vx_pic::Picture;
 use vx_pps::{Pps, PpsShape, Tiles, reshape_pps};
 use vx_sps::{Sps, SpsShape, SubpicPlan, reshape_sps};
 
-/// Rectangles once more.
+/// Copies rectangles.
 fn copied(alloc: Global, rects: &RectList) -> Result<RectList, AllocError>
     ensures { IfOk result (λ copy. copy ≡ rects.now) }
 {
@@ -24,7 +24,7 @@ fn copied(alloc: Global, rects: &RectList) -> Result<RectList, AllocError>
     Ok(copy)
 }
 
-/// Bounds once more.
+/// Copies bounds.
 fn copied_bounds(alloc: Global, bounds: &Bounds) -> Result<Bounds, AllocError>
     ensures { IfOk result (λ copy. copy ≡ bounds.now) }
 {
@@ -35,7 +35,7 @@ fn copied_bounds(alloc: Global, bounds: &Bounds) -> Result<Bounds, AllocError>
     Ok(copy)
 }
 
-/// The tile lines of a frame once more.
+/// Copies the tile lines of a frame.
 fn copied_tiles(alloc: Global, numbers: &Numbers) -> Result<Tiles, AllocError>
     ensures columns { IfOk result (λ copy. copy.columns ≡ numbers.now.columns) }
     ensures rows { IfOk result (λ copy. copy.rows ≡ numbers.now.rows) }
@@ -45,7 +45,7 @@ fn copied_tiles(alloc: Global, numbers: &Numbers) -> Result<Tiles, AllocError>
     Ok(Tiles { columns, rows })
 }
 
-/// The numbers of a frame once more.
+/// Copies the numbers of a frame.
 pub(crate) fn copied_numbers(alloc: Global, numbers: &Numbers) -> Result<Numbers, AllocError>
     ensures { IfOk result (λ copy. copy ≡ numbers.now) }
 {
@@ -60,7 +60,7 @@ pub(crate) fn copied_numbers(alloc: Global, numbers: &Numbers) -> Result<Numbers
     })
 }
 
-/// What the SPS says.
+/// Returns what the SPS says.
 fn sps_shape(
     alloc: Global,
     round: &[Picture<'_>],
@@ -83,7 +83,7 @@ fn sps_shape(
     })
 }
 
-/// The SPS for a frame, at a level, or at the highest of its pictures.
+/// Makes the SPS of a frame, with this level or the highest of its pictures.
 pub(crate) fn frame_sps(
     alloc: Global,
     round: &[Picture<'_>],
@@ -97,7 +97,7 @@ pub(crate) fn frame_sps(
     reshape_sps(alloc, round[0].sps(), &shape)
 }
 
-/// What the PPS of an id says, where these are the frame's tiles and slices.
+/// Returns what the PPS under an id says, with these tiles and slices.
 fn pps_shape(
     round: &[Picture<'_>],
     frame: &FrameGeometry,
@@ -128,7 +128,7 @@ fn pps_shape(
     }
 }
 
-/// The PPS of an id for a frame that has these tiles and slices.
+/// Makes the PPS under an id of a frame with these tiles and slices.
 fn pps_with(
     alloc: Global,
     round: &[Picture<'_>],
@@ -148,7 +148,7 @@ fn pps_with(
     reshape_pps(alloc, round[0].pps(), &shape)
 }
 
-/// The PPS of an id for a frame.
+/// Makes the PPS under an id of a frame.
 pub(crate) fn frame_pps(
     alloc: Global,
     round: &[Picture<'_>],

@@ -1,4 +1,4 @@
-//! The geometry of the frame that the pictures of a round make up, made as the rules on their sets are tried.
+//! The geometry of a round's frame, made while the rules on its sets are checked.
 ghost use Rattle.std.specs.Prelude.{◌≡◌, ◌+◌, ◌<◌, ◌≤◌, ◌++◌, ◌∷◌, [], All, None, length, map, IfOk, OnOk};
 ghost use Rattle.std.specs.List.{AllZip};
 ghost use Rattle.vx_layout.specs.Frames as frames;
@@ -23,7 +23,7 @@ use vx_pic::Picture;
 use vx_pps::{read_slices_are_listable, sets_tell_partitions};
 use vx_write::WriteError;
 
-/// The frame that the pictures of a round make up, and the regions in it.
+/// The frame of a round's pictures, and the regions in it.
 #[derive(Drop)]
 pub struct FrameGeometry {
     /// The regions, in luma samples.
@@ -32,9 +32,9 @@ pub struct FrameGeometry {
     pub(crate) layouts: Vec<Numbers>,
     /// The frame's width in luma samples.
     pub(crate) width: u32,
-    /// Its height in luma samples.
+    /// The frame's height in luma samples.
     pub(crate) height: u32,
-    /// Its tile lines, the slices of all pictures, and the regions in CTUs.
+    /// The frame's tile lines, the slices of all pictures, and the regions in CTUs.
     pub numbers: Numbers,
 }
 
@@ -47,17 +47,17 @@ struct FrameRegions {
     regions: Vec<Rect>,
     /// The frame's width in luma samples.
     width: u32,
-    /// Its height in luma samples.
+    /// The frame's height in luma samples.
     height: u32,
-    /// The bounds of its tile columns.
+    /// The bounds of the frame's tile columns.
     columns: Bounds,
-    /// The bounds of its tile rows.
+    /// The bounds of the frame's tile rows.
     rows: Bounds,
 }
 
 // ---- slices
 
-/// A rectangle counted from the frame's corner, which is counted from a region's.
+/// Returns a rectangle counted from a region's corner as one counted from the frame's.
 fn moved(rect: Rect, corner: Rect) -> Rect
     requires { (rect.x + corner.x ≤ 65536) × (rect.y + corner.y ≤ 65536) }
     ensures { result ≡ moved_to corner rect }
@@ -70,7 +70,7 @@ fn moved(rect: Rect, corner: Rect) -> Rect
     }
 }
 
-/// Appends the slices of a picture that stands in a region.
+/// Appends the slices of a picture in a region.
 fn push_slices(slices: &mut RectList, corner: Rect, picture: &Numbers) -> Result<(), AllocError>
     requires part { IsPart 512 512 corner }
     requires fills { Fills corner picture.now.slices }
@@ -82,7 +82,7 @@ fn push_slices(slices: &mut RectList, corner: Rect, picture: &Numbers) -> Result
     Ok(())
 }
 
-/// The slices of the pictures, in the order of the regions.
+/// Returns the slices of the pictures, in the order of the regions.
 fn all_slices(alloc: Global, corners: &[Rect], pictures: &[Numbers]) -> Result<RectList, AllocError>
     requires same { length corners.now ≡ length pictures.now }
     requires parts { All (IsPart 512 512) corners.now }
@@ -98,7 +98,7 @@ fn all_slices(alloc: Global, corners: &[Rect], pictures: &[Numbers]) -> Result<R
 
 // ---- the rules on sets
 
-/// The regions and tile lines of the frame of a round, whose pictures have one subpicture each and CTUs of one size.
+/// Makes the regions and tile lines of the frame of a round, whose pictures have one subpicture each and CTUs of one size.
 fn frame_regions(
     alloc: Global,
     corners: &[Corner],
@@ -130,7 +130,7 @@ fn frame_regions(
     })
 }
 
-/// The size of CTUs, as source 0 has it.
+/// Returns the size of source 0's CTUs.
 fn ctb_of(round: &[Picture<'_>]) -> u32
     requires { 0 < length round.now }
     ensures value { result ≡ words.ctb_of round.now }
@@ -139,7 +139,7 @@ fn ctb_of(round: &[Picture<'_>]) -> u32
     round[0].sps().ctb()
 }
 
-/// What [`frame_regions`] makes, where the sets break no rule on them.
+/// Makes what [`frame_regions`] makes, if the sets break no rule.
 fn tried_regions(
     alloc: Global,
     corners: &[Corner],
@@ -174,7 +174,7 @@ fn tried_regions(
 
 // ---- the frame
 
-/// The frame of these tile lines, with the pictures in its regions.
+/// Makes the numbers of the frame with these tile lines and the pictures in its regions.
 fn numbers_of(
     alloc: Global,
     columns: Bounds,
@@ -198,11 +198,9 @@ fn numbers_of(
     })
 }
 
-/// The geometry of the frame of a round, where its sets break no rule on them.
+/// Makes the geometry of the frame of a round whose sets break no rule.
 ///
-/// # Errors
-///
-/// The first rule that they break, or want of memory.
+/// *Errors:* the first rule that the sets break, or lack of memory.
 #[cold]
 #[inline(never)]
 pub(crate) fn frame_geometry(

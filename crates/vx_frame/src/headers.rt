@@ -34,7 +34,7 @@ use vx_sh::SliceHeader;
 
 // ---- the kind
 
-/// Whether two pictures are of one type and TemporalId, and both behind an end of sequence or neither.
+/// Returns whether two pictures have the same type and TemporalId, and both come after an end of sequence or neither does.
 pub(crate) fn same_kind(a: &Picture<'_>, b: &Picture<'_>) -> bool
     ensures same { OnTrue result (rules.shared_kind a.now ≡ rules.shared_kind b.now) }
     ensures other { OnFalse result (rules.shared_kind a.now ≢ rules.shared_kind b.now) }
@@ -49,7 +49,7 @@ pub(crate) fn same_kind(a: &Picture<'_>, b: &Picture<'_>) -> bool
     a.after_eos == b.after_eos
 }
 
-/// The lowest source whose picture is of another kind than source 0's.
+/// Returns the lowest source whose picture is of another kind than source 0's.
 fn lowest_other_kind(round: &[Picture<'_>]) -> Option<u16>
     requires { (0 < length round.now) × (length round.now ≤ 64) }
     ensures { IsLowestAnswer (length round.now) (UnlikeFirst rules.shared_kind round.now) result }
@@ -57,7 +57,7 @@ fn lowest_other_kind(round: &[Picture<'_>]) -> Option<u16>
     lowest_with(round, Sought::OtherKind)
 }
 
-/// Whether a source's picture is of another kind than source 0's.
+/// Returns the refusal of a source whose picture is of another kind than source 0's.
 pub(crate) fn picture_kind(round: &[Picture<'_>]) -> Option<Refusal>
     requires { (0 < length round.now) × (length round.now ≤ 64) }
     ensures { Finds (length round.now) (rules.picture_kind round.now ∷ []) result }
@@ -67,42 +67,42 @@ pub(crate) fn picture_kind(round: &[Picture<'_>]) -> Option<Refusal>
 
 // ---- flags and bodies of headers
 
-/// The number of a field of a picture's header.
+/// Returns the number of a field of a picture's header.
 pub fn header_number(picture: &Picture<'_>, field: u16) -> u32
     ensures { result ≡ loaded.number picture.now.header.fields field }
 {
     number_of(&picture.header().fields, field)
 }
 
-/// Whether a picture's header has LMCS.
+/// Returns whether a picture's header has LMCS.
 pub(crate) fn has_lmcs(picture: &Picture<'_>) -> bool
     ensures { result ≡ bodies.has_lmcs picture.now }
 {
     header_number(picture, ph_lmcs_enabled_flag) != 0
 }
 
-/// Whether it has scaling lists.
+/// Returns whether a picture's header has scaling lists.
 pub(crate) fn has_scaling(picture: &Picture<'_>) -> bool
     ensures { result ≡ bodies.has_scaling picture.now }
 {
     header_number(picture, ph_explicit_scaling_list_enabled_flag) != 0
 }
 
-/// Whether a picture's header scales chroma residuals.
+/// Returns whether a picture's header scales chroma residuals.
 pub fn is_chroma_scaled(picture: &Picture<'_>) -> bool
     ensures { result ≡ bodies.is_chroma_scaled picture.now }
 {
     header_number(picture, ph_chroma_residual_scale_flag) != 0
 }
 
-/// The body of the LMCS that a picture's header names, where the picture has it.
+/// Returns the body of the LMCS that a picture's header names, if the picture has it.
 pub fn lmcs_body<'a>(picture: &Picture<'a>) -> Option<&'a [u8]>
     ensures { option_copied result ≡ bodies.lmcs_body picture.now }
 {
     body_named(picture, LMCS, ph_lmcs_aps_id, &picture.header().fields)
 }
 
-/// The body of the scaling lists that a picture's header names, where the picture has it.
+/// Returns the body of the scaling lists that a picture's header names, if the picture has them.
 pub fn scaling_body<'a>(picture: &Picture<'a>) -> Option<&'a [u8]>
     ensures { option_copied result ≡ bodies.scaling_body picture.now }
 {
@@ -114,7 +114,7 @@ pub fn scaling_body<'a>(picture: &Picture<'a>) -> Option<&'a [u8]>
     )
 }
 
-/// The lowest source whose header has LMCS.
+/// Returns the lowest source whose header has LMCS.
 pub(crate) fn lowest_with_lmcs(round: &[Picture<'_>]) -> Option<u16>
     requires { length round.now ≤ 64 }
     ensures { IsLowestWith bodies.has_lmcs round.now result }
@@ -122,7 +122,7 @@ pub(crate) fn lowest_with_lmcs(round: &[Picture<'_>]) -> Option<u16>
     lowest_with(round, Sought::Lmcs)
 }
 
-/// The lowest source whose header has scaling lists.
+/// Returns the lowest source whose header has scaling lists.
 pub(crate) fn lowest_with_scaling(round: &[Picture<'_>]) -> Option<u16>
     requires { length round.now ≤ 64 }
     ensures { IsLowestWith bodies.has_scaling round.now result }
@@ -130,7 +130,7 @@ pub(crate) fn lowest_with_scaling(round: &[Picture<'_>]) -> Option<u16>
     lowest_with(round, Sought::Scaling)
 }
 
-/// Whether a source has LMCS, and scales chroma residuals otherwise than the lowest one that has it.
+/// Returns whether source `k` has LMCS, and scales chroma residuals otherwise than the lowest source that has it.
 fn scales_otherwise(round: &[Picture<'_>], lowest: Option<u16>, k: usize) -> bool
     requires k { k < length round.now }
     requires lowest { IsLowestWith bodies.has_lmcs round.now lowest }
@@ -147,7 +147,7 @@ fn scales_otherwise(round: &[Picture<'_>], lowest: Option<u16>, k: usize) -> boo
     is_chroma_scaled(picture) != is_chroma_scaled(&round[usize::from(j)])
 }
 
-/// Whether a source has LMCS, and another than the lowest one that has it.
+/// Returns whether source `k` has LMCS that differs from that of the lowest source that has it.
 pub(crate) fn has_other_lmcs(round: &[Picture<'_>], lowest: Option<u16>, k: usize) -> bool
     requires k { k < length round.now }
     requires lowest { IsLowestWith bodies.has_lmcs round.now lowest }
@@ -164,7 +164,7 @@ pub(crate) fn has_other_lmcs(round: &[Picture<'_>], lowest: Option<u16>, k: usiz
     !same_body(lmcs_body(picture), lmcs_body(&round[usize::from(j)]))
 }
 
-/// Whether a source has scaling lists, and others than the lowest one that has them.
+/// Returns whether source `k` has scaling lists that differ from those of the lowest source that has them.
 pub(crate) fn has_other_scaling(round: &[Picture<'_>], lowest: Option<u16>, k: usize) -> bool
     requires k { k < length round.now }
     requires lowest { IsLowestWith bodies.has_scaling round.now lowest }
@@ -183,7 +183,7 @@ pub(crate) fn has_other_scaling(round: &[Picture<'_>], lowest: Option<u16>, k: u
 
 // ---- the header
 
-/// The kept fields of a picture's header, which are of these.
+/// Returns the kept fields of a picture's header, which are among `fields`.
 fn kept_header(alloc: Global, picture: &Picture<'_>, fields: &[u16]) -> Result<Kept, AllocError>
     requires { fields.now ≡ header_kept.kept_ph_fields }
     ensures { IfOk result (λ kept. kept ≡ rules.kept_header picture.now) }
@@ -192,7 +192,7 @@ fn kept_header(alloc: Global, picture: &Picture<'_>, fields: &[u16]) -> Result<K
     Ok(kept)
 }
 
-/// The field in which the kept fields of a picture's header differ from these.
+/// Returns the field in which the kept fields of a picture's header differ from `first`.
 fn kept_header_field(
     alloc: Global,
     picture: &Picture<'_>,
@@ -206,7 +206,7 @@ fn kept_header_field(
     Ok(differing_field(own.as_slice(), first.as_slice()))
 }
 
-/// The field in which the header of a source differs, where source 0 has these kept fields.
+/// Returns the field in which the header of source `k` differs from source 0's, whose kept fields are `first`.
 fn header_field(
     alloc: Global,
     round: &[Picture<'_>],
@@ -231,7 +231,7 @@ fn header_field(
     Ok(None)
 }
 
-/// Whether the headers of all sources have the same items.
+/// Returns whether the headers of all sources have the same items.
 fn have_same_items(round: &[Picture<'_>]) -> bool
     requires { 0 < length round.now }
     ensures { OnTrue result (HaveSameItems (length round.now) round.now) }
@@ -244,7 +244,7 @@ fn have_same_items(round: &[Picture<'_>]) -> bool
     true
 }
 
-/// The lowest source with another header, where source 0 has these kept fields.
+/// Returns the lowest source whose header differs from source 0's, whose kept fields are `first`.
 fn lowest_in_headers(
     alloc: Global,
     round: &[Picture<'_>],
@@ -270,7 +270,7 @@ fn lowest_in_headers(
     Ok(None)
 }
 
-/// The lowest source with another header.
+/// Returns the lowest source whose header differs from source 0's.
 fn lowest_other_header(
     alloc: Global,
     round: &[Picture<'_>],
@@ -289,7 +289,7 @@ fn lowest_other_header(
     lowest_in_headers(alloc, round, fields.as_slice(), &first, lowest)
 }
 
-/// Whether a source has another header.
+/// Returns the refusal of a source whose header differs from source 0's.
 pub(crate) fn picture_header(
     alloc: Global,
     round: &[Picture<'_>],
@@ -303,7 +303,7 @@ pub(crate) fn picture_header(
     Ok(of_field(PICTURE_HEADER, lowest))
 }
 
-/// The lowest source with other LMCS or scaling lists.
+/// Returns the lowest source whose LMCS or scaling lists differ.
 fn lowest_other_sets(round: &[Picture<'_>], lmcs: Option<u16>, scaling: Option<u16>) -> Option<u16>
     requires few { length round.now ≤ 64 }
     requires lmcs { IsLowestWith bodies.has_lmcs round.now lmcs }
@@ -313,7 +313,7 @@ fn lowest_other_sets(round: &[Picture<'_>], lmcs: Option<u16>, scaling: Option<u
     lowest_with(round, Sought::OtherSets { lmcs, scaling })
 }
 
-/// Whether a source has other LMCS or scaling lists.
+/// Returns the refusal of a source whose LMCS or scaling lists differ.
 pub(crate) fn shared_sets(round: &[Picture<'_>], gathered: &RoundBodies<'_>) -> Option<Refusal>
     requires few { length round.now ≤ 64 }
     requires gathered { AreGathered round.now gathered.now }
@@ -325,7 +325,7 @@ pub(crate) fn shared_sets(round: &[Picture<'_>], gathered: &RoundBodies<'_>) -> 
 
 // ---- reference picture lists
 
-/// Both reference picture lists of a slice: the picture header's or its own.
+/// Returns both reference picture lists of a slice: the picture header's or its own.
 pub(crate) fn lists_of<'a>(picture: &Picture<'a>, slice: &'a SliceHeader) -> &'a RefLists
     ensures { result.now ≡ inputs.lists_in_force picture.now slice.now }
 {
@@ -336,16 +336,16 @@ pub(crate) fn lists_of<'a>(picture: &Picture<'a>, slice: &'a SliceHeader) -> &'a
     }
 }
 
-/// The reference picture lists of a picture's first slice.
+/// Returns the reference picture lists of a picture's first slice.
 fn first_lists<'a>(picture: &Picture<'a>) -> &'a RefLists
     ensures { rules.first_lists picture.now ≡ result.now ∷ [] }
 {
-    // There is one.
+    // The call states that there is a slice.
     let _count = picture.slice_count();
     lists_of(picture, picture.slice(0).header)
 }
 
-/// Whether the first slices of two pictures have the same reference picture lists.
+/// Returns whether the first slices of two pictures have the same reference picture lists.
 pub(crate) fn same_first_lists(a: &Picture<'_>, b: &Picture<'_>) -> bool
     ensures same { OnTrue result (rules.first_lists a.now ≡ rules.first_lists b.now) }
     ensures other { OnFalse result (rules.first_lists a.now ≢ rules.first_lists b.now) }
@@ -356,7 +356,7 @@ pub(crate) fn same_first_lists(a: &Picture<'_>, b: &Picture<'_>) -> bool
     false
 }
 
-/// The lowest source whose first slice has other lists than source 0's.
+/// Returns the lowest source whose first slice has other lists than source 0's.
 fn lowest_other_lists(round: &[Picture<'_>]) -> Option<u16>
     requires { (0 < length round.now) × (length round.now ≤ 64) }
     ensures { IsLowestAnswer (length round.now) (UnlikeFirst rules.first_lists round.now) result }
@@ -364,7 +364,7 @@ fn lowest_other_lists(round: &[Picture<'_>]) -> Option<u16>
     lowest_with(round, Sought::OtherLists)
 }
 
-/// Whether a source's first slice has other lists than source 0's.
+/// Returns the refusal of a source whose first slice has other lists than source 0's.
 pub(crate) fn reference_lists(round: &[Picture<'_>]) -> Option<Refusal>
     requires { (0 < length round.now) × (length round.now ≤ 64) }
     ensures { Finds (length round.now) (rules.reference_lists round.now ∷ []) result }

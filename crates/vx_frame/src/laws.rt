@@ -1,7 +1,7 @@
-//! The law of the rules: a function that does nothing, with it as its contract.
+//! The law of the rules. The function does nothing and has its law as its contract.
 ghost use Rattle.vx_frame.specs.Rules.{VerdictIsOne};
 
-/// There is one verdict at most.
+/// If two answers are the verdict by the rules on the same round and number of sources, then they are equal.
 pub fn verdict_is_one()
     ensures { VerdictIsOne }
 {}

@@ -24,12 +24,12 @@ use vx_layout::{Bounds, Numbers, Rect};
 use vx_pic::Picture;
 use vx_write::{WriteError, sets_in_force};
 
-/// The most slices of a picture.
+/// The most slices that a picture may have.
 const MOST_SLICES: u32 = 1000;
 
 // ---- regions
 
-/// The region of a picture with its upper left corner here, as its sets have it.
+/// Returns the region of a picture with this upper left corner, from its sets.
 fn region_at(corner: Corner, picture: &Picture<'_>) -> Placed
     ensures { result ≡ regions.placed_at corner picture.now }
 {
@@ -42,7 +42,7 @@ fn region_at(corner: Corner, picture: &Picture<'_>) -> Placed
     }
 }
 
-/// The region of a picture with its upper left corner here.
+/// Returns the region of a picture with this upper left corner.
 fn placed_at(corner: Corner, picture: &Picture<'_>) -> Placed
     requires corner { IsCorner corner }
     requires sets { AreInForce picture.now }
@@ -52,7 +52,7 @@ fn placed_at(corner: Corner, picture: &Picture<'_>) -> Placed
     region_at(corner, picture)
 }
 
-/// The regions of the pictures at their corners.
+/// Returns the regions of the pictures at their corners.
 pub(crate) fn placed(
     alloc: Global,
     corners: &[Corner],
@@ -71,7 +71,7 @@ pub(crate) fn placed(
     Ok(placed)
 }
 
-/// What is told of a frame's regions that don't fit together.
+/// Returns the refusal of regions that don't fit together.
 fn fit_refusal(fault: FitFault) -> Refusal
     ensures { result ≡ found.fit_refusal fault }
 {
@@ -90,7 +90,9 @@ fn fit_refusal(fault: FitFault) -> Refusal
     }
 }
 
-/// The width and height of the frame of regions that fit together, for CTUs of `ctb` times `ctb` samples.
+/// Returns the width and height of the frame of regions that fit together. CTUs have `ctb` times `ctb` samples.
+///
+/// *Errors:* the first rule that the regions break.
 pub(crate) fn frame_size(placed: &[Placed], ctb: u32) -> Result<(u32, u32), WriteError>
     requires count { (0 < length placed.now) × (length placed.now ≤ 64) }
     requires numbers { All IsInRange placed.now }
@@ -104,7 +106,7 @@ pub(crate) fn frame_size(placed: &[Placed], ctb: u32) -> Result<(u32, u32), Writ
     }
 }
 
-/// The regions in CTUs.
+/// Returns the regions in CTUs.
 pub(crate) fn in_ctus(alloc: Global, placed: &[Placed], ctb: u32) -> Result<Vec<Rect>, AllocError>
     requires { 1 ≤ ctb }
     ensures { IfOk result (λ corners. corners.items ≡ map (placing.in_ctus ctb) placed.now) }
@@ -114,7 +116,7 @@ pub(crate) fn in_ctus(alloc: Global, placed: &[Placed], ctb: u32) -> Result<Vec<
 
 // ---- tile lines
 
-/// The layout of a picture's first subpicture.
+/// Returns the layout of a picture's first subpicture.
 fn layout_of(alloc: Global, picture: &Picture<'_>) -> Result<Numbers, AllocError>
     ensures layout { IfOk result (λ layout. layout ≡ regions.layout_of picture.now) }
     ensures sets { AreInForce picture.now }
@@ -123,7 +125,7 @@ fn layout_of(alloc: Global, picture: &Picture<'_>) -> Result<Numbers, AllocError
     picture.layout().region(alloc, 0)
 }
 
-/// The layouts of the pictures.
+/// Returns the layouts of the pictures.
 pub(crate) fn layouts(alloc: Global, round: &[Picture<'_>]) -> Result<Vec<Numbers>, AllocError>
     ensures layouts { IfOk result (λ layouts. layouts.items ≡ regions.layouts_in round.now) }
     ensures sets { OnOk result (All AreInForce round.now) }
@@ -136,7 +138,9 @@ pub(crate) fn layouts(alloc: Global, round: &[Picture<'_>]) -> Result<Vec<Number
     Ok(layouts)
 }
 
-/// The tile lines of the frame of these regions, where those that pass through a region are its own.
+/// Returns the tile lines of the frame of these regions: those that pass through a region are the region's own.
+///
+/// *Errors:* the first source whose region has other lines, or lack of memory.
 pub(crate) fn frame_lines(
     alloc: Global,
     corners: &[Rect],
@@ -161,7 +165,7 @@ pub(crate) fn frame_lines(
 
 // ---- slices
 
-/// How many slices all pictures have together.
+/// Returns how many slices all pictures have together.
 fn slice_count(round: &[Picture<'_>]) -> u32
     requires { length round.now ≤ 64 }
     ensures count { result ≡ sum_by (λ q. length q.slices) round.now }
@@ -174,7 +178,7 @@ fn slice_count(round: &[Picture<'_>]) -> u32
     count
 }
 
-/// Whether all pictures together have more slices than a picture may have.
+/// Returns the refusal of more slices in all than a picture may have.
 pub(crate) fn too_many_slices(round: &[Picture<'_>]) -> Option<Refusal>
     requires { (0 < length round.now) × (length round.now ≤ 64) }
     ensures found { Finds (length round.now) (rules.too_many_slices round.now ∷ []) result }

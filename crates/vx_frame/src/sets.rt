@@ -24,7 +24,7 @@ use vx_pic::{Picture, differing_field, same_items};
 use vx_pps::{Pps, keep_pps};
 use vx_sps::{Sps, keep_sps};
 
-/// The fields of a profile that sources have to share: profile, tier, and whether there are frames alone and one layer alone.
+/// The fields of a profile that sources must share: profile, tier, and whether there are only frames and only one layer.
 const PROFILE: [u16; 4] = [
     general_profile_idc,
     general_tier_flag,
@@ -34,7 +34,7 @@ const PROFILE: [u16; 4] = [
 
 // ---- several subpictures
 
-/// Whether a picture has several subpictures.
+/// Returns whether a picture has several subpictures.
 pub(crate) fn has_several(picture: &Picture<'_>) -> bool
     ensures several { OnTrue result (1 < subpics_of picture.now.sps) }
     ensures alone { OnFalse result (¬ (1 < subpics_of picture.now.sps)) }
@@ -42,7 +42,7 @@ pub(crate) fn has_several(picture: &Picture<'_>) -> bool
     1 < picture.sps().subpics()
 }
 
-/// The lowest source with several subpictures.
+/// Returns the lowest source with several subpictures.
 fn lowest_several(round: &[Picture<'_>]) -> Option<u16>
     requires { length round.now ≤ 64 }
     ensures { IsLowestAnswer (length round.now) (λ k. 1 < subpics_of (picture_at round.now k).sps) result }
@@ -50,7 +50,7 @@ fn lowest_several(round: &[Picture<'_>]) -> Option<u16>
     lowest_with(round, Sought::Subpictures)
 }
 
-/// Whether a source has several subpictures.
+/// Returns the refusal of a source with several subpictures.
 pub(crate) fn several_subpictures(round: &[Picture<'_>]) -> Option<Refusal>
     requires { length round.now ≤ 64 }
     ensures { Finds (length round.now) (rules.several_subpictures round.now ∷ []) result }
@@ -60,7 +60,7 @@ pub(crate) fn several_subpictures(round: &[Picture<'_>]) -> Option<Refusal>
 
 // ---- tools of sequences
 
-/// The first field of a profile of which two sets have other numbers.
+/// Returns the first field of the profile that differs between two SPSs.
 fn differing_profile(sps: &Sps, first: &Sps) -> Option<u16>
     ensures { result ≡ rules.differing_number rules.profile_fields sps.now first.now }
 {
@@ -80,7 +80,7 @@ fn differing_profile(sps: &Sps, first: &Sps) -> Option<u16>
     None
 }
 
-/// The field in which an SPS differs from another, of which these are the kept fields.
+/// Returns the field in which an SPS differs from `first`, whose kept fields are `kept`.
 fn sps_field(
     alloc: Global,
     sps: &Sps,
@@ -100,7 +100,7 @@ fn sps_field(
     }
 }
 
-/// The field in which the SPS of a source differs from source 0's, of which these are the kept fields.
+/// Returns the field in which the SPS of source `k` differs from source 0's, whose kept fields are `kept`.
 fn sps_field_at(
     alloc: Global,
     round: &[Picture<'_>],
@@ -117,7 +117,7 @@ fn sps_field_at(
 
 // ---- tools of pictures
 
-/// The field in which a PPS differs from another, of which these are the kept fields.
+/// Returns the field in which a PPS differs from `first`, whose kept fields are `kept`.
 fn pps_field(
     alloc: Global,
     pps: &Pps,
@@ -134,7 +134,7 @@ fn pps_field(
     Ok(differing_field(own.as_slice(), kept.as_slice()))
 }
 
-/// The field in which the PPS of a source differs from source 0's, of which these are the kept fields.
+/// Returns the field in which the PPS of source `k` differs from source 0's, whose kept fields are `kept`.
 fn pps_field_at(
     alloc: Global,
     round: &[Picture<'_>],
@@ -151,7 +151,7 @@ fn pps_field_at(
 
 // ---- tools of either
 
-/// Which parameter set of a picture is looked at.
+/// Which parameter set of a picture is compared.
 #[derive(Clone, Copy)]
 enum SetKind {
     /// Its SPS.
@@ -160,7 +160,7 @@ enum SetKind {
     Pps,
 }
 
-/// The kept fields of a picture's set.
+/// Returns the kept fields of a picture's set.
 fn kept_in(alloc: Global, picture: &Picture<'_>, set: SetKind) -> Result<Fields, AllocError>
     ensures { IfOk result (λ kept. kept ≡ tools.kept_in set picture.now) }
 {
@@ -170,7 +170,7 @@ fn kept_in(alloc: Global, picture: &Picture<'_>, set: SetKind) -> Result<Fields,
     }
 }
 
-/// The field in which the set of a source differs from source 0's, of which these are the kept fields.
+/// Returns the field in which the set of source `k` differs from source 0's, whose kept fields are `kept`.
 fn field_at(
     alloc: Global,
     round: &[Picture<'_>],
@@ -188,7 +188,7 @@ fn field_at(
     }
 }
 
-/// The lowest source with another set than source 0, as far as tools go.
+/// Returns the lowest source whose set differs from source 0's in its tools.
 fn lowest_other(
     alloc: Global,
     round: &[Picture<'_>],
@@ -210,7 +210,7 @@ fn lowest_other(
     Ok(None)
 }
 
-/// Whether a source has other tools of sequences than source 0.
+/// Returns the refusal of a source whose SPS differs from source 0's in its tools.
 pub(crate) fn sps_tools(alloc: Global, round: &[Picture<'_>]) -> Result<Option<Refusal>, AllocError>
     requires { (0 < length round.now) × (length round.now ≤ 64) }
     ensures { IfOk result (Finds (length round.now) (rules.sps_tools round.now ∷ [])) }
@@ -219,7 +219,7 @@ pub(crate) fn sps_tools(alloc: Global, round: &[Picture<'_>]) -> Result<Option<R
     Ok(of_field(SPS_TOOLS, lowest))
 }
 
-/// Whether a source has other tools of pictures than source 0.
+/// Returns the refusal of a source whose PPS differs from source 0's in its tools.
 pub(crate) fn pps_tools(alloc: Global, round: &[Picture<'_>]) -> Result<Option<Refusal>, AllocError>
     requires { (0 < length round.now) × (length round.now ≤ 64) }
     ensures { IfOk result (Finds (length round.now) (rules.pps_tools round.now ∷ [])) }

@@ -1,4 +1,4 @@
-//! What the sets say that are sent for a frame of the pictures of a round (H.266 7.4.3.4, 7.4.3.5).
+//! What the sets of a frame say (H.266 7.4.3.4, 7.4.3.5).
 ghost use Rattle.std.specs.Prelude.{◌≡◌, ◌==◌, ◌||◌, ◌≤ℤ◌, pos, neg_ℤ, All, length};
 ghost use Rattle.std.specs.List.{list_any};
 ghost use Rattle.vx_fields.specs.declared.ptl.TheConstants as ptl_fields;
@@ -26,17 +26,17 @@ use vx_write::{in_sps, own_level};
 /// An edge of a frame.
 #[derive(Clone, Copy)]
 pub(crate) enum Edge {
-    /// The left one.
+    /// The left edge.
     Left,
-    /// The right one, of a frame of this width.
+    /// The right edge of a frame with this width.
     Right(u32),
-    /// The upper one.
+    /// The upper edge.
     Top,
-    /// The lower one, of a frame of this height.
+    /// The lower edge of a frame with this height.
     Bottom(u32),
 }
 
-/// Whether a region touches an edge.
+/// Returns whether a region touches an edge.
 fn touches(edge: Edge, region: &Placed) -> bool
     requires { IsInRange region.now }
     ensures { result ≡ edges.touches edge region.now }
@@ -49,7 +49,7 @@ fn touches(edge: Edge, region: &Placed) -> bool
     }
 }
 
-/// The lesser of two offsets, or the one where there is no other.
+/// Returns the smaller of two offsets, or `offset` if there is no other.
 fn lesser(least: Option<u32>, offset: u32) -> u32
     ensures { result ≡ edges.lesser least offset }
 {
@@ -59,7 +59,7 @@ fn lesser(least: Option<u32>, offset: u32) -> u32
     }
 }
 
-/// The least offset so far, with that of one more region, where this touches the edge.
+/// Returns the smallest offset with one more region, which counts if it touches the edge.
 fn with_offset(least: Option<u32>, is_there: bool, offset: u32) -> Option<u32>
     ensures { result ≡ edges.with_offset least is_there offset }
 {
@@ -69,7 +69,7 @@ fn with_offset(least: Option<u32>, is_there: bool, offset: u32) -> Option<u32>
     least
 }
 
-/// The least offset of the windows of the regions that touch an edge.
+/// Returns the smallest offset of the windows of the regions that touch an edge.
 fn least_offset(edge: Edge, field: u16, placed: &[Placed], round: &[Picture<'_>]) -> u32
     requires same { length placed.now ≡ length round.now }
     requires range { All IsInRange placed.now }
@@ -83,7 +83,7 @@ fn least_offset(edge: Edge, field: u16, placed: &[Placed], round: &[Picture<'_>]
     least.unwrap_or(0)
 }
 
-/// The conformance window: left, right, top and bottom.
+/// Returns the offsets of the conformance window: left, right, top, bottom.
 pub(crate) fn window(placed: &[Placed], round: &[Picture<'_>], width: u32, height: u32) -> [u32; 4]
     requires same { length placed.now ≡ length round.now }
     requires range { All IsInRange placed.now }
@@ -106,7 +106,7 @@ pub(crate) fn window(placed: &[Placed], round: &[Picture<'_>], width: u32, heigh
 
 // ---- numbers of several pictures
 
-/// The greatest number that the SPSs give a field.
+/// Returns the greatest number that the SPSs have for a field.
 fn greatest(round: &[Picture<'_>], field: u16) -> u32
     ensures { result ≡ spec.greatest (spec.numbers_in_round round.now field) }
 {
@@ -117,14 +117,14 @@ fn greatest(round: &[Picture<'_>], field: u16) -> u32
     greatest
 }
 
-/// Whether one of two things holds.
+/// Returns whether `a` or `b` holds.
 fn either(a: bool, b: bool) -> bool
     ensures { result ≡ (a || b) }
 {
     a || b
 }
 
-/// Whether an SPS gives a field the number 0.
+/// Returns whether an SPS has the number 0 for a field.
 fn has_zero(round: &[Picture<'_>], field: u16) -> bool
     ensures { result ≡ list_any (λ n. n == 0) (spec.numbers_in_round round.now field) }
 {
@@ -135,7 +135,7 @@ fn has_zero(round: &[Picture<'_>], field: u16) -> bool
     found
 }
 
-/// The latency of the highest sublayer.
+/// Returns the latency of the highest sublayer.
 fn latency(round: &[Picture<'_>]) -> u32
     ensures { result ≡ spec.latency_of (spec.numbers_in_round round.now dpb_fields.dpb_max_latency_increase_plus1) }
 {
@@ -145,7 +145,7 @@ fn latency(round: &[Picture<'_>]) -> u32
     greatest(round, dpb_max_latency_increase_plus1)
 }
 
-/// The DPB parameters of the highest sublayer.
+/// Returns the DPB parameters of the highest sublayer.
 pub(crate) fn dpb(round: &[Picture<'_>]) -> [u32; 3]
     ensures { result ≡ spec.frame_dpb round.now }
 {
@@ -156,7 +156,7 @@ pub(crate) fn dpb(round: &[Picture<'_>]) -> [u32; 3]
     ]
 }
 
-/// The highest level of the pictures.
+/// Returns the highest level of the pictures.
 fn highest_level(round: &[Picture<'_>]) -> u8
     ensures { result ≡ spec.greatest (spec.numbers_in_round round.now ptl_fields.general_level_idc) }
 {
@@ -167,7 +167,7 @@ fn highest_level(round: &[Picture<'_>]) -> u8
     highest
 }
 
-/// The level that is asked for, or else the highest.
+/// Returns the level asked for, or otherwise the highest of the pictures.
 pub(crate) fn level_of(round: &[Picture<'_>], level: Option<u8>) -> u8
     ensures { result ≡ spec.frame_level round.now level }
 {
@@ -176,7 +176,7 @@ pub(crate) fn level_of(round: &[Picture<'_>], level: Option<u8>) -> u8
 
 // ---- the PPS
 
-/// The same number in fewer bits.
+/// Returns the same number in fewer bits.
 fn narrowed(qp: i64) -> i32
     requires { (neg_ℤ (pos 38) ≤ℤ qp) × (qp ≤ℤ pos 37) }
     ensures { result ≡ qp }
@@ -184,7 +184,7 @@ fn narrowed(qp: i64) -> i32
     qp as i32
 }
 
-/// The QP of a picture's PPS, less 26.
+/// Returns the QP of a picture's PPS, minus 26.
 pub fn init_qp(picture: &Picture<'_>) -> i32
     ensures value { result ≡ signed picture.now.pps pps_fields.pps_init_qp_minus26 }
     ensures range { (neg_ℤ (pos 38) ≤ℤ result) × (result ≤ℤ pos 37) }

@@ -19,7 +19,7 @@ use vx_sh::SliceHeader;
 
 // ---- output of pictures before
 
-/// What a slice says of the output of pictures before it, where it does.
+/// Returns what a slice says of the output of prior pictures, if it does.
 fn output_of(picture: &Picture<'_>, i: u32) -> Option<i64>
     requires { i < length picture.now.slices }
     ensures { slice_get (rules.outputs_of picture.now) i ≡ Some result }
@@ -31,16 +31,16 @@ fn output_of(picture: &Picture<'_>, i: u32) -> Option<i64>
         .first(sh_no_output_of_prior_pics_flag)
 }
 
-/// What the first slice of a picture says of it.
+/// Returns what the first slice of a picture says of it.
 fn first_output(picture: &Picture<'_>) -> Option<i64>
     ensures { slice_get (rules.outputs_of picture.now) 0 ≡ Some result }
 {
-    // There is one.
+    // The call states that there is a slice.
     let _count = picture.slice_count();
     output_of(picture, 0)
 }
 
-/// Whether two slices say the same of it.
+/// Returns whether two slices say the same of it.
 fn same_output(a: Option<i64>, b: Option<i64>) -> bool
     ensures same { OnTrue result (a ≡ b) }
     ensures other { OnFalse result (¬ (a ≡ b)) }
@@ -52,7 +52,7 @@ fn same_output(a: Option<i64>, b: Option<i64>) -> bool
     }
 }
 
-/// Whether a slice of a picture says another thing of it.
+/// Returns whether a slice of a picture says something else of it.
 fn has_other_output(picture: &Picture<'_>, first: Option<i64>) -> bool
     ensures unlike { OnTrue result (SomeUnlike (rules.outputs_of picture.now) (Some first)) }
     ensures alike { OnFalse result (AllByRecursion (λ x. Some first ≡ Some x) (rules.outputs_of picture.now)) }
@@ -65,7 +65,7 @@ fn has_other_output(picture: &Picture<'_>, first: Option<i64>) -> bool
     false
 }
 
-/// The lowest source of which a slice says another thing than the first of all.
+/// Returns the lowest source with a slice that says something else than the first slice of all.
 fn lowest_other_output(round: &[Picture<'_>]) -> Option<u16>
     requires { (0 < length round.now) × (length round.now ≤ 64) }
     ensures { IsLowestAnswer (length round.now) (SomeUnlikeFirst rules.outputs_of round.now) result }
@@ -79,7 +79,7 @@ fn lowest_other_output(round: &[Picture<'_>]) -> Option<u16>
     None
 }
 
-/// Whether a slice says another thing of the output of pictures before it than the first of all.
+/// Returns the refusal of slices that differ from the first one in what they say of the output of prior pictures.
 pub(crate) fn output_of_prior(round: &[Picture<'_>]) -> Option<Refusal>
     requires { (0 < length round.now) × (length round.now ≤ 64) }
     ensures { Finds (length round.now) (rules.output_of_prior round.now ∷ []) result }
@@ -89,7 +89,7 @@ pub(crate) fn output_of_prior(round: &[Picture<'_>]) -> Option<Refusal>
 
 // ---- collocated pictures
 
-/// The collocated picture that a slice header names, where it does, of a picture whose slices may.
+/// Returns the collocated picture that a slice header names, if it names one, in a picture whose slices may.
 fn named_in<'a>(picture: &Picture<'a>, header: &'a SliceHeader) -> Option<Collocated>
     ensures { cond (words.names_one header.now) (words.collocated_of picture.now header.now ∷ []) [] ≡ option_to_list result }
 {
@@ -99,7 +99,7 @@ fn named_in<'a>(picture: &Picture<'a>, header: &'a SliceHeader) -> Option<Colloc
     None
 }
 
-/// The collocated picture that a slice of a picture names, where it does.
+/// Returns the collocated picture that slice `i` of a picture names, if it names one.
 fn named_at(picture: &Picture<'_>, may: bool, i: u32) -> Option<Collocated>
     requires i { i < length picture.now.slices }
     requires may { may ≡ words.may_name picture.now }
@@ -112,7 +112,7 @@ fn named_at(picture: &Picture<'_>, may: bool, i: u32) -> Option<Collocated>
     None
 }
 
-/// The first that a slice of a picture names.
+/// Returns the first collocated picture that a slice of a picture names.
 fn first_named(picture: &Picture<'_>) -> Option<Collocated>
     ensures { result ≡ slice_get (words.collocated picture.now) 0 }
 {
@@ -125,7 +125,7 @@ fn first_named(picture: &Picture<'_>) -> Option<Collocated>
     None
 }
 
-/// The first that a slice of all pictures names.
+/// Returns the first collocated picture that a slice of any picture names.
 fn first_of_all(round: &[Picture<'_>]) -> Option<Collocated>
     ensures { result ≡ slice_get (flat_map words.collocated round.now) 0 }
 {
@@ -137,7 +137,7 @@ fn first_of_all(round: &[Picture<'_>]) -> Option<Collocated>
     None
 }
 
-/// Whether two are told to be the same.
+/// Returns whether two collocated pictures are stated to be the same.
 fn same_collocated(a: Collocated, b: Collocated) -> bool
     ensures same { OnTrue result (a ≡ b) }
     ensures other { OnFalse result (¬ (a ≡ b)) }
@@ -145,7 +145,7 @@ fn same_collocated(a: Collocated, b: Collocated) -> bool
     a == b
 }
 
-/// Whether something is named, and it is another one than this.
+/// Returns whether one is named and differs from `first`.
 fn is_other(named: Option<Collocated>, first: Option<Collocated>) -> bool
     ensures unlike { OnTrue result (SomeUnlike (option_to_list named) first) }
     ensures alike { OnFalse result (AllByRecursion (λ x. first ≡ Some x) (option_to_list named)) }
@@ -157,7 +157,7 @@ fn is_other(named: Option<Collocated>, first: Option<Collocated>) -> bool
     }
 }
 
-/// Whether a slice of a picture names another one.
+/// Returns whether a slice of a picture names another one than `first`.
 pub(crate) fn names_other(picture: &Picture<'_>, first: Option<Collocated>) -> bool
     ensures unlike { OnTrue result (SomeUnlike (words.collocated picture.now) first) }
     ensures alike { OnFalse result (AllByRecursion (λ x. first ≡ Some x) (words.collocated picture.now)) }
@@ -171,7 +171,7 @@ pub(crate) fn names_other(picture: &Picture<'_>, first: Option<Collocated>) -> b
     false
 }
 
-/// The lowest source of which a slice names another one than the first of all.
+/// Returns the lowest source with a slice that names another one than the first of all.
 fn lowest_other_collocated(round: &[Picture<'_>]) -> Option<u16>
     requires { length round.now ≤ 64 }
     ensures { IsLowestAnswer (length round.now) (SomeUnlikeFirst words.collocated round.now) result }
@@ -180,7 +180,7 @@ fn lowest_other_collocated(round: &[Picture<'_>]) -> Option<u16>
     lowest_with(round, Sought::OtherCollocated(first))
 }
 
-/// Whether slices name different collocated pictures.
+/// Returns the refusal of slices that name different collocated pictures.
 pub(crate) fn collocated_pictures(round: &[Picture<'_>]) -> Option<Refusal>
     requires { length round.now ≤ 64 }
     ensures { Finds (length round.now) (rules.collocated_pictures round.now ∷ []) result }

@@ -15,20 +15,20 @@ use crate::told::lowest_of;
 use vx_layout::Numbers;
 use vx_pic::Picture;
 
-/// What a source may have.
+/// A property that a source may have.
 #[derive(Clone, Copy)]
 pub(crate) enum Sought<'a> {
     /// Several subpictures.
     Subpictures,
     /// A picture of another kind than source 0's.
     OtherKind,
-    /// Other reference picture lists in its first slice than source 0.
+    /// Reference picture lists in its first slice that differ from source 0's.
     OtherLists,
     /// LMCS.
     Lmcs,
     /// Scaling lists.
     Scaling,
-    /// Other LMCS than the lowest source with them, or other scaling lists.
+    /// LMCS or scaling lists that differ from those of the lowest source with them.
     OtherSets {
         /// The lowest source with LMCS.
         lmcs: Option<u16>,
@@ -51,11 +51,11 @@ pub(crate) enum Sought<'a> {
         /// The layouts of the pictures.
         layouts: &'a [Numbers],
     },
-    /// A slice that names another collocated picture than the first of all, which is this.
+    /// A slice that names another collocated picture than this, the first of all.
     OtherCollocated(Option<Collocated>),
 }
 
-/// Whether a source has it.
+/// Returns whether source `k` has the property.
 fn has(round: &[Picture<'_>], sought: Sought<'_>, k: usize) -> bool
     requires k { k < length round.now }
     requires known { words.IsKnown sought round.now }
@@ -85,7 +85,7 @@ fn has(round: &[Picture<'_>], sought: Sought<'_>, k: usize) -> bool
     }
 }
 
-/// The lowest source that has it.
+/// Returns the lowest source that has the property.
 pub(crate) fn lowest_with(round: &[Picture<'_>], sought: Sought<'_>) -> Option<u16>
     requires few { length round.now ≤ 64 }
     requires known { words.IsKnown sought round.now }

@@ -14,11 +14,9 @@ use std::alloc::Global;
 use vx_pic::Picture;
 use vx_write::WriteError;
 
-/// Whether the pictures of a round break no rule, where its sets break none.
+/// Checks that the pictures of a round break no rule. Its sets break none.
 ///
-/// # Errors
-///
-/// The first rule that they break, or want of memory.
+/// *Errors:* the first rule that the pictures break, or lack of memory.
 fn check_pictures(
     alloc: Global,
     round: &[Picture<'_>],
@@ -37,11 +35,11 @@ fn check_pictures(
     }
 }
 
-/// The frame of a round that breaks no rule: the one that was kept, where it serves.
+/// Returns the frame of a round that breaks no rule.
 ///
-/// # Errors
-///
-/// The first rule that the round breaks, or want of memory.
+/// `kept` is used again only if all pictures have the sets that it was made for. `level` is the level to write; `None` means the highest
+/// of the pictures'. `bodies` is what [`round_bodies`](crate::round_bodies) collects. *Errors:* `Refused`: the first rule that the round
+/// breaks. `Memory`.
 pub fn sound_frame(
     alloc: Global,
     corners: &[Corner],

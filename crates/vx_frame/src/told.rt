@@ -1,4 +1,4 @@
-//! The lowest source that breaks a rule, and what is told of it.
+//! The lowest source that breaks a rule, and the refusal for it.
 ghost use Rattle.std.specs.Prelude.{◌≡◌, ℕ, ◌<◌, ◌≤◌, length};
 ghost use Rattle.std.specs.Fn.{FnReturnsAt};
 ghost use Rattle.vx_frame.specs.Rounds.{picture_at};
@@ -16,7 +16,7 @@ pub(crate) struct Differing {
     pub(crate) field: u16,
 }
 
-/// The lowest of so many sources of which a test holds.
+/// Returns the lowest index below `count` for which `holds` is true.
 pub fn lowest_of<F: Fn(usize) -> bool>(count: usize, holds: F) -> Option<u16>
     requires few { count ≤ 65536 }
     requires may { (k : ℕ) → k < count → F.pre holds k }
@@ -30,7 +30,7 @@ pub fn lowest_of<F: Fn(usize) -> bool>(count: usize, holds: F) -> Option<u16>
     None
 }
 
-/// The lowest source of whose picture a test holds.
+/// Returns the lowest source for whose picture `holds` is true.
 pub fn lowest_source<F: Fn(&Picture<'_>) -> bool>(round: &[Picture<'_>], holds: F) -> Option<u16>
     requires few { length round.now ≤ 65536 }
     requires may { F.IsAlwaysCallable holds }
@@ -44,7 +44,7 @@ pub fn lowest_source<F: Fn(&Picture<'_>) -> bool>(round: &[Picture<'_>], holds: 
     None
 }
 
-/// What is told of a rule on no field, by the lowest source that breaks it.
+/// Returns the refusal by a rule without a field, for the lowest source that breaks it.
 pub fn of_source(code: u8, lowest: Option<u16>) -> Option<Refusal>
     ensures { result ≡ found.told_source code lowest }
 {
@@ -56,7 +56,7 @@ pub fn of_source(code: u8, lowest: Option<u16>) -> Option<Refusal>
     })
 }
 
-/// What is told of a rule on fields.
+/// Returns the refusal by a rule on fields, for the lowest source that breaks it.
 pub(crate) fn of_field(code: u8, lowest: Option<Differing>) -> Option<Refusal>
     ensures { result ≡ found.told_field code lowest }
 {

@@ -1,4 +1,4 @@
-//! The verdict on the pictures of a round whose sets break no rule on them.
+//! The verdict on the pictures of a round whose sets break no rule.
 ghost use Rattle.std.specs.Prelude.{◌≡◌, ◌<◌, ◌≤◌, ◌∷◌, [], ◌++◌, length, None, IfOk};
 ghost use Rattle.vx_frame.specs.Rules as rules;
 ghost use Rattle.vx_frame.specs.inner.Found.{Finds};
@@ -16,7 +16,7 @@ use std::alloc::{AllocError, Global};
 use vx_bits::Refusal;
 use vx_pic::Picture;
 
-/// The verdict by the rule on PPSs. That of a frame that was kept has passed.
+/// Returns the verdict by the rule on PPSs. A kept frame has passed it.
 fn verdict_of_pps(
     alloc: Global,
     round: &[Picture<'_>],
@@ -32,7 +32,7 @@ fn verdict_of_pps(
     }
 }
 
-/// The verdict by the rule on loop filters. Those of a frame that was kept have passed.
+/// Returns the verdict by the rule on loop filters. A kept frame has passed it.
 fn verdict_of_flags(round: &[Picture<'_>], frame: &RoundFrame) -> Option<Refusal>
     requires count { (0 < length round.now) × (length round.now ≤ 64) }
     requires frame { KnownWhereKept (Finds (length round.now) (rules.filter_flags round.now ∷ []) None) round.now frame.now }
@@ -44,7 +44,7 @@ fn verdict_of_flags(round: &[Picture<'_>], frame: &RoundFrame) -> Option<Refusal
     }
 }
 
-/// The verdict by the rules on pictures.
+/// Returns the verdict by the rules on pictures.
 fn verdict_of_pictures(
     alloc: Global,
     round: &[Picture<'_>],
@@ -73,7 +73,7 @@ fn verdict_of_pictures(
     Ok(reference_lists(round))
 }
 
-/// The verdict by the rules on slices.
+/// Returns the verdict by the rules on slices.
 fn verdict_of_slices(
     round: &[Picture<'_>],
     gathered: &RoundBodies<'_>,
@@ -96,7 +96,7 @@ fn verdict_of_slices(
     collocated_pictures(round)
 }
 
-/// The verdict on a round whose sets break no rule on them.
+/// Returns the verdict on a round whose sets break no rule.
 pub(crate) fn verdict(
     alloc: Global,
     round: &[Picture<'_>],
