@@ -1,4 +1,4 @@
-//! A subpicture of picture after picture.
+//! An extractor: a subpicture of picture after picture becomes one stream.
 
 use crate::rewritten::Rewritten;
 use crate::rules::refusal_of;
@@ -9,12 +9,12 @@ use vx_io::Sink;
 use vx_pic::Picture;
 use vx_write::{Slots, WriteError, WriteFirst, first_of};
 
-/// The highest TemporalId of all (H.266 7.4.2.2).
+/// The highest TemporalId (H.266 7.4.2.2).
 const ALL: u8 = 6;
 
 /// Writes a subpicture of picture after picture, as a stream of its own.
 ///
-/// After a refusal, want of memory or a failed write it answers [`WriteError::Stopped`], and writes nothing more.
+/// After a refusal, lack of memory or a failed write every call returns [`WriteError::Stopped`] with it, and writes nothing.
 #[derive(Drop)]
 pub struct Extractor {
     alloc: Global,
@@ -44,7 +44,9 @@ impl Extractor {
     ghost use Rattle.vx_write.specs.Faults as faults;
     ghost use Rattle.vx_extract.specs.Extracting.{Stands, WritesPicture, ChecksPicture, JudgesSo, SameTask};
 
-    /// An extractor of the subpicture of this index, with a level of its own or the source's, of all sublayers.
+    /// Makes an extractor of subpicture `target` that keeps all sublayers.
+    ///
+    /// `level` is the level to write; `None` keeps the source's.
     pub fn new(alloc: Global, target: u32, level: Option<u8>) -> Extractor
         ensures task { (result.target ≡ target) × (result.level ≡ level) × (result.tid ≡ 6) }
         ensures stands { Stands result [] }
@@ -52,7 +54,9 @@ impl Extractor {
         Extractor::limited(alloc, target, level, ALL)
     }
 
-    /// An extractor of the subpicture of this index, with a level of its own or the source's, of the sublayers up to a TemporalId.
+    /// Makes an extractor of subpicture `target` that keeps pictures with a TemporalId of at most `tid`.
+    ///
+    /// `level` is the level to write; `None` keeps the source's.
     pub fn limited(alloc: Global, target: u32, level: Option<u8>, tid: u8) -> Extractor
         requires { tid ≤ 6 }
         ensures task { (result.target ≡ target) × (result.level ≡ level) × (result.tid ≡ tid) }
@@ -67,12 +71,12 @@ impl Extractor {
         }
     }
 
-    /// Writes the subpicture of a picture, behind those of the pictures before it, or leaves the picture out with its sublayer.
+    /// Writes the subpicture of a picture, after those of earlier pictures. Writes nothing if the picture's sublayer is left out.
     ///
-    /// # Errors
-    ///
-    /// The rule that the picture breaks, or want of memory, and nothing of it is then written; or a failed write, and a front of it
-    /// is then written. All later pictures are answered with the first of these.
+    /// The units come in this order: an end of sequence where one stood, the needed sets that aren't resident, the messages, the picture
+    /// header, and the slices of the subpicture. The picture header and the slices are copied byte for byte. *Errors:* `Refused`: the
+    /// first rule that the picture breaks (E2 to E5). `Memory`. After either, nothing of the picture is written. `SinkFailed`: a proper
+    /// prefix of it is written. After an error every call returns `Stopped` with it.
     pub fn picture<K: Sink>(&mut self, picture: &Picture<'_>, out: &mut K) -> Result<(), WriteError>
         ensures answer { (done : List Plan) → Stands self.old done
             → WritesPicture picture.now done self.new (K.bytes_taken out.old) (K.bytes_taken out.new) (K.write_faults out.old) (K.write_faults out.new) result }
@@ -94,12 +98,10 @@ impl Extractor {
         }
     }
 
-    /// Whether the subpicture of a picture can be extracted: what [`Extractor::picture`] answers, unless memory runs out or a write
-    /// fails. It writes nothing, and takes no memory.
+    /// Checks whether the subpicture of a picture can be extracted. Writes nothing and takes no memory.
     ///
-    /// # Errors
-    ///
-    /// The rule that the picture breaks. All later pictures are answered with the first one.
+    /// The result is that of [`Extractor::picture`] if memory suffices and no write fails. *Errors:* `Refused`: the first rule that the
+    /// picture breaks (E2 to E5). After an error every call returns `Stopped` with it.
     pub fn check(&mut self, picture: &Picture<'_>) -> Result<(), WriteError>
         ensures answer { self.old.first ≡ None → ChecksPicture picture.now self.old result }
         ensures task { SameTask self.old self.new }

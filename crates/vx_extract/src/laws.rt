@@ -1,4 +1,4 @@
-//! Laws of what is written: functions that do nothing, each with a law as its contract.
+//! Laws of what is written. Each function does nothing and has its law as its contract.
 ghost use Rattle.vx_extract.specs.Again.{ExtractedArePlanned, ExtractedHasItsBodies, ExtractedIsAlike, ExtractedIsWhole, ExtractedReadsAgain, ExtractedSendsItsSets, ExtractedUnitsAreRead, RewrittenAgree, RewrittenKeepFields, RewrittenKeepIds, RewrittenMakeRegion, RewrittenReadAlike};
 
 use vx_layout::{region_is_layout, region_is_listable, region_keeps_slices, regions_nest};
@@ -12,8 +12,10 @@ use vx_sh::{numbers_are_told, slice_read_elsewhere, slice_scopes_agree};
 use vx_sps::{reshaped_keeps, reshaped_says};
 use vx_write::set_units_are_read;
 
-/// The sets that are rewritten for a subpicture make up its region, a picture of one subpicture that has its id
-/// (H.266 7.4.3.4, 7.4.3.5), and have the ids of the sets that they stand for.
+/// If sets are rewritten for a subpicture, then they make up its region: a picture with one subpicture, which has its id (H.266 7.4.3.4,
+/// 7.4.3.5).
+///
+/// They have the ids of the sets that they replace.
 pub fn rewritten_make_region()
     ensures made { RewrittenMakeRegion }
     ensures ids { RewrittenKeepIds }
@@ -26,7 +28,7 @@ pub fn rewritten_make_region()
     reshaped_has_its_tiles();
 }
 
-/// They have the kept fields of these sets.
+/// If sets are rewritten for a subpicture, then their kept fields are the source's.
 pub fn rewritten_keep_fields()
     ensures { RewrittenKeepFields }
 {
@@ -38,7 +40,7 @@ pub fn rewritten_keep_fields()
     region_keeps();
 }
 
-/// Headers find in them all that they find in these sets.
+/// If sets are rewritten for a subpicture, then headers find in them all that they find in the source's sets.
 pub fn rewritten_agree()
     ensures { RewrittenAgree }
 {
@@ -48,8 +50,9 @@ pub fn rewritten_agree()
     lists_follow_items();
 }
 
-/// Under them the units of the picture are read as they are under its own sets: the picture header, and each slice of the
-/// subpicture.
+/// If sets are rewritten for a subpicture, then readers of H.266 read the picture's units alike under them and under its own.
+///
+/// These units are the picture header and each slice of the subpicture.
 pub fn rewritten_read_alike()
     ensures { RewrittenReadAlike }
 {
@@ -64,7 +67,7 @@ pub fn rewritten_read_alike()
     readers_are_unique();
 }
 
-/// The header and the slices of what is written for a picture of a stream are read again as it says.
+/// If the units of a whole picture's subpicture are written, then its header and slices are read again as the plan says.
 pub fn extracted_units_are_read()
     ensures { ExtractedUnitsAreRead }
 {
@@ -72,24 +75,28 @@ pub fn extracted_units_are_read()
     rewritten_read_alike();
 }
 
-/// It has all slices of the region, in order, and no more bytes than a picture may have.
+/// If a picture has all its slices in order and isn't too long, then its written subpicture has all slices of the region in order and
+/// isn't too long either.
 pub fn extracted_is_whole()
     ensures { ExtractedIsWhole }
 {}
 
-/// Of the sets that a written picture needs no two have one type and id, and exactly those are sent that aren't resident; and its
-/// header tells the same of counts as that of the picture that it is written for.
+/// If a subpicture is written, then the needed sets that aren't resident are sent, and no others.
+///
+/// No two needed sets have the same type and id. The written header agrees with the picture's in all that picture order counts depend on.
 pub fn extracted_sends_its_sets()
     ensures sets { ExtractedSendsItsSets }
     ensures counts { ExtractedIsAlike }
 {}
 
-/// The adaptation parameter sets that it needs can be read again, and all that its slices name are among them.
+/// If a picture's adaptation parameter sets can be written and those that slices name are there, then the needed ones can be read again.
+///
+/// All that the slices name are among them.
 pub fn extracted_has_its_bodies()
     ensures { ExtractedHasItsBodies }
 {}
 
-/// What is written for the pictures of a stream is as plans have to be, and has the counts of these pictures.
+/// If subpictures of a stream's pictures are written, then the plans of these are valid, and have the counts of the pictures.
 pub fn extracted_are_planned()
     ensures { ExtractedArePlanned }
 {
@@ -102,7 +109,7 @@ pub fn extracted_are_planned()
     edits_are_planned();
 }
 
-/// So it is read again: exactly the pictures that were written, and all whole.
+/// If subpictures of a stream's pictures are written, then what is read again are exactly the written pictures, and all are whole.
 pub fn extracted_reads_again()
     ensures { ExtractedReadsAgain }
 {

@@ -1,4 +1,4 @@
-//! Laws of what stays: functions that do nothing, each with a law as its contract.
+//! Laws of what extraction keeps. Each function does nothing and has its law as its contract.
 ghost use Rattle.vx_extract.specs.Kept.{AllKeepInputs, AllKeepMessages, ExtractedKeepsBodies, ExtractedKeepsInputs, ExtractedKeepsMessages, RewrittenKeepPlaces};
 
 use crate::laws::{
@@ -9,8 +9,9 @@ use vx_pic::needed_is_body;
 use vx_pps::{read_slices_are_listable, reshaped_has_its_tiles, sets_tell_partitions};
 use vx_sps::reshaped_says;
 
-/// The place of a slice in the region, under the rewritten sets, is its place in the subpicture: width and height, tiles and
-/// slices, and whether in-loop filters cross their borders (H.266 7.4.3.5).
+/// If sets are rewritten for a subpicture, then the place of a slice in the region is its place in the subpicture (H.266 7.4.3.5).
+///
+/// A place is width and height, tiles and slices, and whether in-loop filters cross their borders.
 pub fn rewritten_keep_places()
     ensures { RewrittenKeepPlaces }
 {
@@ -23,7 +24,7 @@ pub fn rewritten_keep_places()
     reshaped_has_its_tiles();
 }
 
-/// The adaptation parameter sets that the subpicture's slices name have the picture's bodies in what is read again.
+/// If a subpicture is written, then the adaptation parameter sets that its slices name have the source's bodies when read again.
 pub fn extracted_keeps_bodies()
     ensures { ExtractedKeepsBodies }
 {
@@ -31,7 +32,7 @@ pub fn extracted_keeps_bodies()
     extracted_sends_its_sets();
 }
 
-/// The slices of the picture that is read again have the decoding inputs of the subpicture's slices.
+/// If a subpicture is written, then its slices have the source's decoding inputs when read again.
 pub fn extracted_keeps_inputs()
     ensures { ExtractedKeepsInputs }
 {
@@ -41,13 +42,12 @@ pub fn extracted_keeps_inputs()
     extracted_keeps_bodies();
 }
 
-/// It has the messages of the picture.
+/// If a subpicture is written, then it has the picture's messages when read again.
 pub fn extracted_keeps_messages()
     ensures { ExtractedKeepsMessages }
 {}
 
-/// So all pictures that are read again have the decoding inputs of the subpicture in the pictures of the source, in order, and their
-/// messages.
+/// If a subpicture of all pictures is written, then all have the source's decoding inputs and messages when read again, in order.
 pub fn all_keep_inputs()
     ensures inputs { AllKeepInputs }
     ensures messages { AllKeepMessages }

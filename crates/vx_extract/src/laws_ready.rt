@@ -1,10 +1,10 @@
-//! Laws of the pictures of a stream of which a subpicture is written: functions that do nothing, each with a law as its contract.
+//! Laws of the pictures of a stream, for extraction. Each function does nothing and has its law as its contract.
 ghost use Rattle.vx_extract.specs.Ready.{PicturesAreInForce, PicturesAreReady, PicturesHaveTheirReadings};
 
 use vx_pic::{pictures_are_finished, pictures_have_sets, subpictures_have_slices};
 use vx_pps::sets_tell_partitions;
 
-/// The sets in force for each picture were read, and make up its layout.
+/// If pictures are read from units by readers of H.266, then the sets in force for each make up its layout.
 pub fn pictures_are_in_force()
     ensures { PicturesAreInForce }
 {
@@ -13,15 +13,16 @@ pub fn pictures_are_in_force()
     pictures_have_sets();
 }
 
-/// The adaptation parameter sets of each picture were read, so that they can be written, those that its slices name are there, and
-/// its messages are carried.
+/// If pictures are read from units by readers of H.266, then their adaptation parameter sets can be written.
+///
+/// Those that slices name are there, and their messages are carried.
 pub fn pictures_have_their_readings()
     ensures { PicturesHaveTheirReadings }
 {
     pictures_are_finished();
 }
 
-/// So a subpicture that each picture of a stream up to a TemporalId has can be written, and is read again.
+/// If each picture up to a TemporalId has the subpicture, then the subpicture can be written for each and is read again.
 pub fn pictures_are_ready()
     ensures { PicturesAreReady }
 {

@@ -1,4 +1,4 @@
-//! Laws of what is written for a whole stream: functions that do nothing, each with a law as its contract.
+//! Laws of what is written for a whole stream. Each function does nothing and has its law as its contract.
 ghost use Rattle.vx_extract.specs.Whole.{ExtractedUnitsReadAgain, ExtractionReadsAgain};
 
 use crate::laws::{extracted_reads_again, rewritten_make_region};
@@ -7,9 +7,10 @@ use crate::laws_ready::pictures_are_ready;
 use vx_annexb::{escaped_is_unique, escaped_splits};
 use vx_pic::{kept_are_finished, pictures_are_finished, written_has_pictures};
 
-/// The units that are written for a subpicture of the pictures of a stream up to a TemporalId, where each of these has it and no IRAP or
-/// GDR picture is left out (H.266 C.6), are read again: exactly these pictures, of their kinds and counts, with the decoding inputs and
-/// the messages of the source, and they end well.
+/// If units are written for a subpicture of a stream's pictures up to a TemporalId, then they are read again as exactly these pictures.
+///
+/// Each of these pictures has the subpicture, and no IRAP or GDR picture is left out (H.266 C.6). The pictures read again have the
+/// source's kinds, counts, decoding inputs and messages, and no rule refuses them.
 pub fn extracted_units_read_again()
     ensures { ExtractedUnitsReadAgain }
 {
@@ -21,7 +22,9 @@ pub fn extracted_units_read_again()
     all_keep_inputs();
 }
 
-/// So are the bytes: they have exactly these pictures, and no rule refuses them.
+/// If bytes are written for a subpicture of a stream's pictures up to a TemporalId, then they are read again as exactly these pictures.
+///
+/// The premises and what the pictures have are those of [`extracted_units_read_again`].
 pub fn extraction_reads_again()
     ensures { ExtractionReadsAgain }
 {

@@ -16,13 +16,13 @@ use vx_pps::Pps;
 use vx_table::natural;
 use vx_write::NeededAps;
 
-/// How many ids a type has at most: 0 to 7 (H.266 7.4.3.6).
+/// The most ids of a type: 0 to 7 (H.266 7.4.3.6).
 const IDS: u8 = 8;
 
-/// How many types and ids there are: the places of sets of type 0 by their ids, and then those of types 1 and 2.
+/// The number of places: those of sets of type 0 by their ids, then those of types 1 and 2.
 pub(crate) const APS_SLOTS: u8 = 24;
 
-/// Which adaptation parameter sets are named. It is seen as their flags, by place.
+/// Which adaptation parameter sets are named. *Model:* a flag for each place.
 #[derive(Drop)]
 pub(crate) struct NamedAps {
     flags: [bool; 24],
@@ -44,14 +44,14 @@ impl NamedAps {
     ghost use Rattle.vx_pic.specs.Sets.{named, named_filters};
     ghost use Rattle.vx_extract.specs.inner.Needed.{marked, all_marked, own_names, header_filters, header_names};
 
-    /// None are named.
+    /// Returns a mark of no set.
     fn none() -> NamedAps
         ensures { result ≡ replicate 24 false }
     {
         NamedAps { flags: [false; 24] }
     }
 
-    /// Whether the set at a place is named.
+    /// Returns whether the set at a place is named.
     pub(crate) fn has(&self, place: u8) -> bool
         requires { place < 24 }
         ensures { result ≡ slice_index_or self.now place false }
@@ -59,7 +59,7 @@ impl NamedAps {
         self.flags[usize::from(place)]
     }
 
-    /// Marks the set of a type and an id, where there is a place for it.
+    /// Marks the set of a type and an id, if there is a place for it.
     #[tactic(auto, unfolding(crate::specs::inner::Needed::marked))]
     fn mark(&mut self, kind: u8, id: u32)
         ensures { self.new ≡ marked self.old (record { kind = kind; id = id }) }
@@ -94,7 +94,7 @@ impl NamedAps {
         self.mark_named(ALF, alf_cc_cr_aps_id, items);
     }
 
-    /// Marks what a slice header names by itself: filters, unless the picture header has them.
+    /// Marks what a slice header names itself: filters, unless the picture header has them.
     #[tactic(auto, using(crate::proofs::Naming::own_none, crate::proofs::Naming::own_filters))]
     fn mark_slice(&mut self, pps: &Pps, items: &Fields)
         ensures { self.new ≡ all_marked self.old (own_names pps.now items.now) }
@@ -104,7 +104,7 @@ impl NamedAps {
         }
     }
 
-    /// Marks the filters that a picture header names, where it has any.
+    /// Marks the filters that a picture header names, if it has any.
     #[tactic(auto, using(crate::proofs::Naming::filters_none, crate::proofs::Naming::filters_there))]
     fn mark_header_filters(&mut self, pps: &Pps, items: &Fields)
         ensures { self.new ≡ all_marked self.old (header_filters pps.now items.now) }
@@ -114,7 +114,7 @@ impl NamedAps {
         }
     }
 
-    /// Marks what a picture header names: LMCS and scaling lists whether they are used or not.
+    /// Marks what a picture header names: filters, and LMCS and scaling lists whether they are used or not.
     #[tactic(auto, using(crate::proofs::Naming::header_marked))]
     fn mark_header(&mut self, pps: &Pps, items: &Fields)
         ensures { self.new ≡ all_marked self.old (header_names pps.now items.now) }
@@ -125,7 +125,7 @@ impl NamedAps {
     }
 }
 
-/// Which sets the slices of a subpicture name. It takes no memory.
+/// Returns which sets the slices of a subpicture name. Takes no memory.
 pub(crate) fn named_aps(picture: &Picture<'_>, target: u32) -> NamedAps
     ensures { NamesOf picture.now target result }
 {
@@ -146,7 +146,7 @@ pub(crate) fn named_aps(picture: &Picture<'_>, target: u32) -> NamedAps
     named
 }
 
-/// The set at a place, where it is named.
+/// Returns the set at a place, if it is named.
 #[tactic(auto, using(crate::proofs::Naming::needed_not, crate::proofs::Naming::needed_one, crate::proofs::Naming::needed_there))]
 pub(crate) fn needed_at<'a>(
     picture: &Picture<'a>,

@@ -1,4 +1,4 @@
-//! The units of a picture, written.
+//! Writing the units of a picture.
 ghost use Rattle.std.specs.Prelude.{◌<◌, length, map, option_map};
 ghost use Rattle.vx_write.specs.Writing.{Takes};
 ghost use Rattle.vx_extract.specs.inner.Writing.{slice_units, slice_units_at, units_with};
@@ -8,7 +8,7 @@ use vx_io::{Sink, SinkFailed};
 use vx_pic::Picture;
 use vx_write::{write_all_of, write_end, write_one, write_some};
 
-/// Writes a slice of a picture, where it is one of the subpicture.
+/// Writes a slice of a picture, if it belongs to the subpicture.
 fn write_slice<K: Sink>(
     out: &mut K,
     picture: &Picture<'_>,
@@ -36,7 +36,7 @@ fn write_slices<K: Sink>(out: &mut K, picture: &Picture<'_>, target: u32) -> Res
     Ok(())
 }
 
-/// Writes all units of a picture. It takes no memory.
+/// Writes all units of a picture. Takes no memory.
 pub(crate) fn write_picture<K: Sink>(
     out: &mut K,
     picture: &Picture<'_>,

@@ -1,4 +1,4 @@
-//! The sets that are sent for pictures, kept for the next picture with the same two sets.
+//! The sets that are sent for pictures, kept for later pictures with the same SPS and PPS.
 ghost use Rattle.std.specs.Prelude.{◌≡◌, ◌<◌, ◌&&◌, IfOk, IfSome};
 ghost use Rattle.vx_sps.specs.Subpictures.{subpics_of};
 ghost use Rattle.vx_pic.specs.PictureLayout.{ids_of, numbers_in};
@@ -11,7 +11,7 @@ use vx_pic::{Picture, SetsKey};
 use vx_pps::Pps;
 use vx_sps::Sps;
 
-/// The two sets that are sent for a subpicture of pictures with two sets.
+/// The SPS and PPS that are sent for a subpicture of pictures with the same sets.
 #[derive(Drop)]
 pub(crate) struct Rewritten {
     /// The key of the pictures' sets.
@@ -22,7 +22,7 @@ pub(crate) struct Rewritten {
     pub(crate) pps: Pps,
 }
 
-/// The two sets of a picture tell its layout and the ids of its subpictures.
+/// States that the two sets of a picture determine its layout and the ids of its subpictures.
 fn sets_tell(picture: &Picture<'_>)
     ensures layout { picture.now.layout ≡ numbers_in picture.now.sps picture.now.pps }
     ensures ids { picture.now.ids ≡ ids_of picture.now.sps picture.now.pps }
@@ -31,7 +31,7 @@ fn sets_tell(picture: &Picture<'_>)
     let _ids = picture.ids();
 }
 
-/// The sets that are sent for a picture.
+/// Makes the sets that are sent for a picture.
 fn rewritten_for(
     alloc: Global,
     picture: &Picture<'_>,
@@ -48,14 +48,14 @@ fn rewritten_for(
     Ok(Rewritten { source, sps, pps })
 }
 
-/// Whether these sets are those of a picture with the same two sets.
+/// Returns whether these sets were made for a picture with the same SPS and PPS.
 fn is_of(kept: &Rewritten, picture: &Picture<'_>) -> bool
     ensures { result ≡ (sets.same_items kept.now.source.sps picture.now.sps && sets.same_items kept.now.source.pps picture.now.pps) }
 {
     kept.source.is_of(picture.sps(), picture.pps())
 }
 
-/// The sets that are sent for a picture: the kept ones, where the picture has the same two sets.
+/// Returns the sets that are sent for a picture: the kept ones, if the picture has the same SPS and PPS.
 pub(crate) fn rewrite(
     alloc: Global,
     kept: Option<Rewritten>,

@@ -1,4 +1,4 @@
-//! The rules by which a subpicture can't be extracted.
+//! The rules by which a subpicture can't be extracted (E2 to E5).
 ghost use Rattle.std.specs.Prelude.{◌≡◌};
 ghost use Rattle.vx_extract.specs.Rules as rules;
 
@@ -6,14 +6,14 @@ use vx_bits::Refusal;
 use vx_bits::rules::{FILTERED_ACROSS, IRAP_DROPPED, NO_SUCH_SUBPICTURE, NOT_TREATED_AS_PICTURE};
 use vx_pic::{Picture, is_irap_or_gdr};
 
-/// Whether a picture belongs to a sublayer that is kept.
+/// Returns whether a picture belongs to a sublayer that is kept.
 pub(crate) fn is_kept(picture: &Picture<'_>, tid: u8) -> bool
     ensures { result ≡ rules.is_kept tid picture.now }
 {
     picture.kind().temporal_id <= tid
 }
 
-/// The rule that a picture breaks which is kept.
+/// Returns the first rule that a kept picture breaks.
 fn rule_of_kept(picture: &Picture<'_>, target: u32) -> Option<u8>
     ensures { result ≡ rules.rule_of_kept target picture.now }
 {
@@ -30,14 +30,14 @@ fn rule_of_kept(picture: &Picture<'_>, target: u32) -> Option<u8>
     None
 }
 
-/// The rule that a picture breaks which is left out.
+/// Returns the rule that a picture breaks that is left out.
 fn rule_of_dropped(picture: &Picture<'_>) -> Option<u8>
     ensures { result ≡ rules.rule_of_dropped picture.now }
 {
     is_irap_or_gdr(picture.kind().nal_type).then_some(IRAP_DROPPED)
 }
 
-/// The first rule that a picture breaks.
+/// Returns the first rule that a picture breaks.
 fn rule_of(picture: &Picture<'_>, target: u32, tid: u8) -> Option<u8>
     ensures { result ≡ rules.rule_of target tid picture.now }
 {
@@ -47,7 +47,7 @@ fn rule_of(picture: &Picture<'_>, target: u32, tid: u8) -> Option<u8>
     rule_of_dropped(picture)
 }
 
-/// Why the subpicture `target` of a picture can't be extracted, where TemporalIds above `tid` are left out. It takes no memory.
+/// Returns why subpicture `target` of a picture can't be extracted, if TemporalIds above `tid` are left out. Takes no memory.
 pub(crate) fn refusal_of(picture: &Picture<'_>, target: u32, tid: u8) -> Option<Refusal>
     ensures { result ≡ rules.refusal_of target tid picture.now }
 {

@@ -21,7 +21,7 @@ use vx_pps::Pps;
 use vx_sps::Sps;
 use vx_write::{NeededSet, Slots, forget_before, sei_unit, send};
 
-/// What is made of a picture: all that is written of it beside its own units.
+/// What is made for a picture: all that is written of it besides its own units.
 #[derive(Drop)]
 pub(crate) struct Made {
     /// The units of the sets that are sent.
@@ -31,7 +31,7 @@ pub(crate) struct Made {
 }
 
 impl Made {
-    /// The SEI unit.
+    /// Returns the SEI unit, if there is one.
     pub(crate) fn sei_unit(&self) -> Option<&[u8]>
         ensures { option_copied result ≡ option_map (λ unit. unit.items) self.now.sei }
     {
@@ -39,7 +39,7 @@ impl Made {
     }
 }
 
-/// Makes the unit of the adaptation parameter set at a place, where the subpicture names it.
+/// Makes the unit of the adaptation parameter set at a place, if the subpicture names it and it isn't resident.
 fn send_aps(
     alloc: Global,
     slots: &mut Slots,
@@ -62,7 +62,7 @@ fn send_aps(
     }
 }
 
-/// Makes the units of the adaptation parameter sets that the subpicture names, by rising type and id.
+/// Makes the units of the adaptation parameter sets that the subpicture names and that aren't resident, by rising type and id.
 fn send_named(
     alloc: Global,
     slots: &mut Slots,
@@ -83,7 +83,7 @@ fn send_named(
     Ok(())
 }
 
-/// Makes the units of the sets that the subpicture needs, of those that aren't resident.
+/// Makes the units of the sets that the subpicture needs and that aren't resident.
 fn send_needed(
     alloc: Global,
     slots: &mut Slots,
@@ -107,7 +107,7 @@ fn send_needed(
     Ok(units)
 }
 
-/// Makes what is written of a picture beside its own units. The rewritten sets are kept for the next picture.
+/// Makes what is written of a picture besides its own units. The rewritten sets are kept for the next picture.
 pub(crate) fn make(
     alloc: Global,
     slots: &mut Slots,

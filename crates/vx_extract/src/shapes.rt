@@ -1,4 +1,8 @@
-//! The sets that are sent for a subpicture of a picture, and what they say (H.266 7.4.3.4, 7.4.3.5).
+//! The SPS and PPS that are sent for a subpicture, and what they say (H.266 7.4.3.4, 7.4.3.5).
+//!
+//! They have the size, window, level, subpicture, id, tiles and slices of the subpicture. DPB numbers, ticks and picture rate are those
+//! of the source's highest sublayer. Constraints, levels of sublayers, sub-profiles and HRD parameters are left out; all else is the
+//! source's (`IsReshapedSps`).
 ghost use Rattle.std.specs.Prelude.{◌≡◌, ◌==◌, ◌+◌, ◌<◌, IfOk};
 ghost use Rattle.vx_sps.specs.Set.{ctb_size_of};
 ghost use Rattle.vx_sps.specs.Subpictures.{rect_of, subpics_of};
@@ -29,7 +33,7 @@ use vx_write::{in_pps, in_sps, own_level, sets_in_force};
 
 // ---- the subpicture
 
-/// The width and the height of a subpicture in luma samples.
+/// Returns the width and the height of a subpicture in luma samples.
 fn size_of(picture: &Picture<'_>, target: u32) -> (u32, u32)
     requires { target < subpics_of picture.now.sps }
     ensures width { result.0 ≡ spec.width_in picture.now target }
@@ -43,7 +47,7 @@ fn size_of(picture: &Picture<'_>, target: u32) -> (u32, u32)
     )
 }
 
-/// The id of a subpicture.
+/// Returns the id of a subpicture.
 fn id_of(picture: &Picture<'_>, target: u32) -> u32
     ensures { result ≡ spec.id_in picture.now target }
 {
@@ -51,7 +55,7 @@ fn id_of(picture: &Picture<'_>, target: u32) -> u32
     ids.get(target as usize).copied().unwrap_or(0)
 }
 
-/// Whether the PPS has the ids of subpictures.
+/// Returns whether the PPS has the ids of subpictures.
 fn needs_ids(picture: &Picture<'_>) -> bool
     ensures { result ≡ layout.needs_ids picture.now.sps }
 {
@@ -61,21 +65,21 @@ fn needs_ids(picture: &Picture<'_>) -> bool
 
 // ---- the SPS
 
-/// An offset of the conformance window, where the subpicture touches that edge of the picture.
+/// Returns an offset of the conformance window if the subpicture touches that edge of the picture, and 0 otherwise.
 fn offset(picture: &Picture<'_>, touches: bool, field: u16) -> u32
     ensures { result ≡ spec.offset picture.now.sps touches field }
 {
     if touches { in_sps(picture, field) } else { 0 }
 }
 
-/// Whether `size` columns or rows from `from` on are the last ones of so many.
+/// Returns whether `size` columns or rows from `from` on end at the last of `total`.
 fn ends(from: u32, size: u32, total: u32) -> bool
     ensures { result ≡ (from + size == total) }
 {
     u64::from(from) + u64::from(size) == u64::from(total)
 }
 
-/// The conformance window: left, right, top and bottom.
+/// Returns the offsets of the conformance window: left, right, top, bottom.
 fn window(picture: &Picture<'_>, target: u32) -> [u32; 4]
     requires { target < subpics_of picture.now.sps }
     ensures { result ≡ spec.window_of picture.now.sps (rect_of picture.now.sps target) }
@@ -92,7 +96,7 @@ fn window(picture: &Picture<'_>, target: u32) -> [u32; 4]
     ]
 }
 
-/// The DPB parameters of the highest sublayer.
+/// Returns the DPB parameters of the highest sublayer.
 fn dpb(picture: &Picture<'_>) -> [u32; 3]
     ensures { result ≡ spec.dpb_of picture.now.sps }
 {
@@ -103,7 +107,7 @@ fn dpb(picture: &Picture<'_>) -> [u32; 3]
     ]
 }
 
-/// The id of the subpicture, where the SPS has it.
+/// Returns the id of the subpicture, if the SPS has it.
 fn id_in_sps(picture: &Picture<'_>, target: u32) -> Option<u32>
     ensures { result ≡ spec.id_in_sps picture.now target }
 {
@@ -114,7 +118,7 @@ fn id_in_sps(picture: &Picture<'_>, target: u32) -> Option<u32>
     }
 }
 
-/// The subpictures that the SPS describes.
+/// Returns the subpictures that the SPS describes.
 fn plan(picture: &Picture<'_>, target: u32) -> SubpicPlan
     ensures { result ≡ spec.plan_of picture.now target }
 {
@@ -127,7 +131,7 @@ fn plan(picture: &Picture<'_>, target: u32) -> SubpicPlan
     }
 }
 
-/// What the SPS says.
+/// Returns what the SPS says.
 #[tactic(auto, unfolding(vx_pic::specs::Sets::sps_id))]
 fn sps_shape(picture: &Picture<'_>, target: u32, level: Option<u8>) -> SpsShape
     requires { target < subpics_of picture.now.sps }
@@ -148,7 +152,7 @@ fn sps_shape(picture: &Picture<'_>, target: u32, level: Option<u8>) -> SpsShape
     }
 }
 
-/// The SPS for a subpicture of a picture, at a level, or at its own.
+/// Makes the SPS for a subpicture of a picture, with this level or the source's.
 pub(crate) fn rewritten_sps(
     alloc: Global,
     picture: &Picture<'_>,
@@ -164,7 +168,7 @@ pub(crate) fn rewritten_sps(
 
 // ---- the PPS
 
-/// The bits of an id, less 1, and the id of the subpicture, where the PPS has it.
+/// Returns the number of bits of an id, minus 1, and the id of the subpicture, if the PPS has it.
 fn id_in_pps(picture: &Picture<'_>, target: u32) -> Option<(u32, u32)>
     ensures { result ≡ spec.id_in_pps picture.now target }
 {
@@ -178,7 +182,7 @@ fn id_in_pps(picture: &Picture<'_>, target: u32) -> Option<(u32, u32)>
     }
 }
 
-/// What the PPS says.
+/// Returns what the PPS says.
 #[tactic(auto, unfolding(vx_pic::specs::Sets::pps_id, vx_pic::specs::Sets::referred_sps))]
 fn pps_shape(alloc: Global, picture: &Picture<'_>, target: u32) -> Result<PpsShape, AllocError>
     requires { target < subpics_of picture.now.sps }
@@ -211,7 +215,7 @@ fn pps_shape(alloc: Global, picture: &Picture<'_>, target: u32) -> Result<PpsSha
     })
 }
 
-/// The PPS for a subpicture of a picture.
+/// Makes the PPS for a subpicture of a picture.
 pub(crate) fn rewritten_pps(
     alloc: Global,
     picture: &Picture<'_>,

@@ -1,4 +1,4 @@
-//! A picture that is written as it is asked for.
+//! Writing the subpicture of one picture.
 ghost use Rattle.std.specs.Prelude.{◌≡◌, ◌≤◌, List, None, IfSome};
 ghost use Rattle.vx_pic.specs.Written.{Plan};
 ghost use Rattle.vx_pic.specs.Resident.{history_of};
@@ -15,18 +15,18 @@ use vx_io::Sink;
 use vx_pic::Picture;
 use vx_write::{Slots, WriteError};
 
-/// What is asked of an extractor.
+/// What an extractor was asked for.
 #[derive(Clone, Copy)]
 pub(crate) struct Task {
     /// The index of the subpicture.
     pub(crate) target: u32,
-    /// The level that is asked for.
+    /// The level to write; `None` keeps the source's.
     pub(crate) level: Option<u8>,
     /// The highest TemporalId that is kept.
     pub(crate) tid: u8,
 }
 
-/// Writes the subpicture of a picture, behind those of others, where its sublayer is kept.
+/// Writes the subpicture of a picture after those of others, if its sublayer is kept.
 pub(crate) fn write<K: Sink>(
     alloc: Global,
     task: Task,

@@ -56,7 +56,7 @@ impl Model for Cutter {
     ghost invariant = { λ c. c.tid ≡ c.extractor.tid };
 }
 
-/// What a source that has ended behind so many pictures comes to: there has to be one.
+/// Returns the end of a source that has ended after `pictures` pictures: without pictures it is refused (E1).
 fn end_behind(pictures: u64) -> Cut
     ensures { EndsBehind pictures result }
 {

@@ -12,7 +12,7 @@ use crate::spot::Spot;
 use std::alloc::{AllocError, Global};
 use vx_pic::Picture;
 
-/// C1: the lowest file whose picture has another number of subpictures than it should.
+/// C1: returns the lowest file whose picture has another number of subpictures than it should.
 fn lowest_count(finished: &Picture<'_>, round: &[Picture<'_>]) -> Option<u16>
     requires { length round.now ≤ 64 }
     ensures { IsLowestFile (suc (length round.now)) (words.count_check finished.now round.now).fails
@@ -29,7 +29,7 @@ fn lowest_count(finished: &Picture<'_>, round: &[Picture<'_>]) -> Option<u16>
     None
 }
 
-/// Whether a subpicture stands at a place.
+/// Returns whether a subpicture is at this place.
 fn stands_at(picture: &Picture<'_>, k: u32, spot: Spot) -> bool
     requires { k < subpics_of picture.now.sps }
     ensures there { OnTrue result (words.StandsAtSpot picture.now k spot) }
@@ -43,7 +43,7 @@ fn stands_at(picture: &Picture<'_>, k: u32, spot: Spot) -> bool
     u64::from(rect.y) * ctb == u64::from(spot.y)
 }
 
-/// C2: the lowest file whose subpicture doesn't stand at its place.
+/// C2: returns the lowest file whose subpicture isn't at its place.
 fn lowest_moved(spots: &[Spot], finished: &Picture<'_>) -> Option<u16>
     requires few { length spots.now ≤ 64 }
     requires count { subpics_of finished.now.sps ≡ length spots.now }
@@ -57,7 +57,7 @@ fn lowest_moved(spots: &[Spot], finished: &Picture<'_>) -> Option<u16>
     None
 }
 
-/// Whether a subpicture has as many slices as a source's picture.
+/// Returns whether a subpicture has as many slices as a source's picture.
 fn has_as_many(
     alloc: Global,
     finished: &Picture<'_>,
@@ -72,7 +72,7 @@ fn has_as_many(
     Ok(own.len() == others.len())
 }
 
-/// C3: the lowest file whose picture has another number of slices than its subpicture.
+/// C3: returns the lowest file whose picture has another number of slices than its subpicture.
 fn lowest_uneven(
     alloc: Global,
     finished: &Picture<'_>,
@@ -90,7 +90,7 @@ fn lowest_uneven(
     Ok(None)
 }
 
-/// What differs first in a round, or nothing, where it is verified.
+/// Returns the first difference in a round, or `None` if it is verified.
 pub(crate) fn mismatch(
     alloc: Global,
     spots: &[Spot],

@@ -20,7 +20,7 @@ pub(crate) struct Differing {
     pub(crate) difference: Difference,
 }
 
-/// Where the decoding inputs of two slices differ first.
+/// Returns where the decoding inputs of two slices differ first.
 fn difference_at(
     alloc: Global,
     finished: &Picture<'_>,
@@ -38,7 +38,7 @@ fn difference_at(
     Ok(same_input(&input, &own))
 }
 
-/// The first slice at which subpicture `k` and a source's picture have other decoding inputs.
+/// Returns the first slice at which subpicture `k` and a source's picture have different decoding inputs.
 fn differing_slice(
     alloc: Global,
     finished: &Picture<'_>,
@@ -62,7 +62,7 @@ fn differing_slice(
     Ok(None)
 }
 
-/// C4: the lowest source of which the decoding inputs of a slice differ, and the first such slice.
+/// C4: returns the lowest source with a slice whose decoding inputs differ, and the first such slice.
 pub(crate) fn input_mismatch(
     alloc: Global,
     finished: &Picture<'_>,

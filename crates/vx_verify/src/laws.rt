@@ -1,12 +1,12 @@
-//! The laws of verified rounds: functions that do nothing, with a law as their contract.
+//! Laws of verified rounds. Each function does nothing and has its law as its contract.
 ghost use Rattle.vx_verify.specs.Verified.{MismatchIsOne, VerifiedHasNone};
 
-/// A round that is verified has no mismatch, so each answer excludes the other.
+/// If a round is verified, then it has no mismatch.
 pub fn verified_has_none()
     ensures { VerifiedHasNone }
 {}
 
-/// One mismatch is told of a round.
+/// If a round has two mismatches, then these are equal.
 pub fn mismatch_is_one()
     ensures { MismatchIsOne }
 {}

@@ -1,4 +1,4 @@
-//! The line that names what differs.
+//! The line that names a mismatch.
 ghost use Rattle.std.specs.Prelude.{◌≡◌, string_bytes, IfOk};
 ghost use Rattle.vx_verify.specs.Line as line;
 ghost use Rattle.vx_verify.specs.Line.{mismatch_text};
@@ -7,8 +7,10 @@ use crate::mismatch::Mismatch;
 use std::alloc::{AllocError, Global};
 use vx_pic::Difference;
 
-/// The line of what differs in a picture, counted from 0, with its line feed: `C2 picture 5 source 1`, and of a slice
-/// `C4 picture 5 source 1 slice 0 part 10 field 0`. The source is the number of the file.
+/// Makes the line of a mismatch in a picture, with its line feed.
+///
+/// A line is `C2 picture 5 source 1`, and of a slice `C4 picture 5 source 1 slice 0 part 10 field 0`. `picture` counts from 0, and the
+/// source is the number of the file. *Errors:* [`AllocError`] if memory runs out.
 pub fn mismatch_line(alloc: Global, mismatch: Mismatch, picture: u64) -> Result<Vec<u8>, AllocError>
     ensures { IfOk result (λ line. line.items ≡ mismatch_text mismatch picture) }
 {
@@ -26,14 +28,14 @@ pub fn mismatch_line(alloc: Global, mismatch: Mismatch, picture: u64) -> Result<
     Ok(text.into_bytes())
 }
 
-/// The line of a file.
+/// Makes the line of a file.
 fn file_line(alloc: Global, code: u8, picture: u64, file: u16) -> Result<String, AllocError>
     ensures { IfOk result (λ text. string_bytes text ≡ line.file_text code picture file) }
 {
     format!(in alloc; "C{code} picture {picture} source {file}\n")
 }
 
-/// The line of a slice.
+/// Makes the line of a slice.
 fn input_line(
     alloc: Global,
     picture: u64,

@@ -7,14 +7,14 @@ use std::alloc::AllocError;
 use thiserror::Error;
 use vx_pic::Difference;
 
-/// What differs first, and in which file: 0 is the finished stream, and behind it stand the sources.
+/// The first difference, with the number of its file: 0 is the finished stream, the sources are numbered from 1.
 #[derive(Clone, Copy, Debug, PartialEq, Eq)]
 pub enum Mismatch {
-    /// C1: the finished picture (file 0) has not as many subpictures as there are sources, or this source's has several.
+    /// C1: the finished picture (file 0) has another number of subpictures than there are sources, or this source's picture has several.
     Count(u16),
-    /// C2: the subpicture of this source doesn't stand at its place.
+    /// C2: the subpicture of this source isn't at its place.
     Rect(u16),
-    /// C3: it has another number of slices than the source.
+    /// C3: the subpicture of this source has another number of slices than the source's picture.
     Slices(u16),
     /// C4: the decoding inputs of a slice differ.
     Input {
@@ -22,31 +22,31 @@ pub enum Mismatch {
         file: u16,
         /// The slice of the subpicture, from 0: its address.
         slice: u32,
-        /// Where they differ first, the finished picture's being the first of both.
+        /// Where they differ first; the finished picture's input is the first of the two.
         difference: Difference,
     },
     /// C5: this file has ended before another.
     Length(u16),
 }
 
-/// Why a round isn't found to be verified.
+/// The reason why a round isn't verified.
 #[derive(Clone, Copy, Debug, PartialEq, Eq, Error)]
 pub enum VerifyError {
     /// Memory ran out.
     #[error("out of memory")]
     Memory,
-    /// The finished stream isn't that of the sources.
+    /// The finished picture isn't the merge of the sources' pictures.
     #[error("a mismatch")]
     Refused(Mismatch),
-    /// Nothing more is verified since this.
+    /// An earlier error stopped the verification.
     #[error("stopped before")]
     Stopped(VerifyFirst),
 }
 
-/// What first kept a round from being verified.
+/// The error that stopped the verification.
 #[derive(Clone, Copy, Debug, PartialEq, Eq)]
 pub enum VerifyFirst {
-    /// Want of memory.
+    /// Lack of memory.
     Memory,
     /// A mismatch.
     Refused(Mismatch),
@@ -60,7 +60,7 @@ impl From<AllocError> for VerifyError {
     }
 }
 
-/// What is answered later, where this kept a round from being verified.
+/// Returns what later calls report after this error.
 pub(crate) fn first_of(error: VerifyError) -> VerifyFirst
     ensures { result ≡ spec.first_of error }
 {

@@ -1,11 +1,11 @@
-//! Where the slices of a subpicture stand among those of its picture.
+//! The places of a subpicture's slices among those of its picture.
 ghost use Rattle.std.specs.Prelude.{◌≤◌, vec_len, IfOk};
 ghost use Rattle.vx_verify.specs.inner.Found.{ArePlaces};
 
 use std::alloc::{AllocError, Global};
 use vx_pic::Picture;
 
-/// The places of the slices of subpicture `k` of a picture, in their order.
+/// Returns the places of the slices of subpicture `k` of a picture, in order.
 pub(crate) fn places(alloc: Global, picture: &Picture<'_>, k: u32) -> Result<Vec<u32>, AllocError>
     ensures places { IfOk result (λ places. ArePlaces picture.now k places.items) }
     ensures few { IfOk result (λ places. vec_len places ≤ 1000) }

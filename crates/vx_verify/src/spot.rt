@@ -1,10 +1,10 @@
-//! Where a source is to stand.
+//! The place of a source in the finished picture.
 
 /// The upper left corner of a source in the finished picture, in luma samples.
 #[derive(Clone, Copy, Debug, PartialEq, Eq)]
 pub struct Spot {
-    /// The column of its left samples.
+    /// The column of the source's left samples.
     pub x: u32,
-    /// The row of its upper samples.
+    /// The row of the source's upper samples.
     pub y: u32,
 }

@@ -1,4 +1,4 @@
-//! Round after round that is verified.
+//! A verifier: round after round is compared.
 ghost use Rattle.std.specs.Prelude.{◌≡◌, ◌≤◌, All, length, map};
 ghost use Rattle.vx_verify.specs.Verifying.{Judges};
 
@@ -9,9 +9,10 @@ use std::alloc::{AllocError, Global};
 use std::marker::Model;
 use vx_pic::{Lender, Picture, lent};
 
-/// Tells round after round whether a finished stream is its sources put together, a round being one picture of it and of each source.
+/// Verifies round after round that a finished stream is the merge of its sources.
 ///
-/// After a mismatch or want of memory it answers [`VerifyError::Stopped`]. It keeps nothing of a round: each is judged by itself.
+/// A round is one picture of the finished stream and of each source, and is judged by itself. After a mismatch or lack of memory every
+/// call returns [`VerifyError::Stopped`] with it.
 #[derive(Drop)]
 pub struct Verifier {
     alloc: Global,
@@ -30,7 +31,7 @@ impl Model for Verifier {
     ghost invariant = { λ v. length v.spots.items ≤ 64 };
 }
 
-/// Judges a finished picture and the pictures that are lent.
+/// Compares a finished picture with the lent pictures.
 fn judge<L: Lender>(
     alloc: Global,
     spots: &[Spot],
@@ -57,7 +58,9 @@ impl Verifier {
     ghost use Rattle.vx_verify.specs.declared.mismatch.VerifyError.TheVariants.{Stopped};
     ghost use Rattle.vx_verify.specs.declared.mismatch.VerifyFirst.{VerifyFirst as First};
 
-    /// A verifier of sources that are to stand at these places, at most 64 of them, each of at most 16,383 luma samples across and down.
+    /// Makes a verifier of sources that are to be at these places.
+    ///
+    /// There are at most 64 places, with coordinates of at most 16,383 luma samples. *Errors:* [`AllocError`] if memory runs out.
     pub fn new(alloc: Global, spots: &[Spot]) -> Result<Verifier, AllocError>
         requires { length spots.now ≤ 64 }
         ensures { IfOk result (λ v. v ≡ record { spots = spots.now; first = None }) }
@@ -71,13 +74,11 @@ impl Verifier {
         })
     }
 
-    /// Whether a finished picture is the pictures of the sources put together: as many lenders as places, each holding its picture. Any
-    /// finished picture may be asked of.
+    /// Verifies that a finished picture is the merge of the sources' pictures.
     ///
-    /// # Errors
-    ///
-    /// What differs first, by its code and then by the lowest file, or want of memory. All later rounds are answered with the first of
-    /// these.
+    /// `lenders` has one lender for each place, in order, and each holds its picture. Any finished picture is allowed. *Errors:*
+    /// `Refused`: the first difference, by its code and then by the lowest file. `Memory`. After an error every call returns `Stopped`
+    /// with it.
     pub fn round<L: Lender>(
         &mut self,
         finished: &Picture<'_>,

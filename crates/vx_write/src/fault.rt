@@ -1,4 +1,4 @@
-//! Why a picture isn't written.
+//! The reasons why a picture isn't written.
 ghost use Rattle.std.specs.Prelude.{◌≡◌};
 ghost use Rattle.vx_write.specs.Faults as faults;
 ghost use Rattle.vx_write.specs.declared.fault.WriteError.TheVariants as errors;
@@ -8,27 +8,27 @@ use thiserror::Error;
 use vx_bits::Refusal;
 use vx_io::SinkFailed;
 
-/// Why a picture isn't written, or not whole.
+/// The reason why a picture isn't written, or not whole.
 #[derive(Clone, Copy, Debug, PartialEq, Eq, Error)]
 pub enum WriteError {
-    /// Memory ran out. Nothing of the picture was written.
+    /// Memory ran out. Nothing of the picture is written.
     #[error("out of memory")]
     Memory,
     /// A write failed.
     #[error("a write failed")]
     SinkFailed,
-    /// The picture breaks a rule. Nothing of it was written.
+    /// The picture breaks a rule. Nothing of it is written.
     #[error("refused")]
     Refused(Refusal),
-    /// Nothing more is written since this.
+    /// An earlier error stopped the writing; nothing is written since.
     #[error("stopped before")]
     Stopped(WriteFirst),
 }
 
-/// What first kept a picture from being written.
+/// The error that stopped the writing.
 #[derive(Clone, Copy, Debug, PartialEq, Eq)]
 pub enum WriteFirst {
-    /// Want of memory.
+    /// Lack of memory.
     Memory,
     /// A failed write.
     SinkFailed,
@@ -52,7 +52,7 @@ impl From<SinkFailed> for WriteError {
     }
 }
 
-/// What is answered later, where this kept a picture from being written.
+/// Returns what later calls report after this error.
 pub fn first_of(error: WriteError) -> WriteFirst
     ensures { result ≡ faults.first_of error }
 {

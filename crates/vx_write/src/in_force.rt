@@ -1,4 +1,4 @@
-//! The sets in force of a picture, of which rewritten ones are made.
+//! The sets in force for a picture, from which rewritten ones are made.
 ghost use Rattle.std.specs.Prelude.{◌≡◌};
 ghost use Rattle.vx_fields.specs.declared.ptl.TheConstants as ptl_fields;
 ghost use Rattle.vx_table.specs.Loaded.{number};
@@ -7,7 +7,7 @@ ghost use Rattle.vx_write.specs.InForce.{AreInForce};
 use vx_fields::ptl::general_level_idc;
 use vx_pic::Picture;
 
-/// What is known of the sets of a picture. Does nothing.
+/// States what is known of the sets of a picture. Does nothing.
 pub fn sets_in_force(picture: &Picture<'_>)
     ensures { AreInForce picture.now }
 {
@@ -17,21 +17,21 @@ pub fn sets_in_force(picture: &Picture<'_>)
     let _first = picture.layout().slice_count(0);
 }
 
-/// The number that the SPS of a picture gives a field.
+/// Returns the number of a field in a picture's SPS.
 pub fn in_sps(picture: &Picture<'_>, field: u16) -> u32
     ensures { result ≡ number picture.now.sps field }
 {
     picture.sps().number(field)
 }
 
-/// The number that its PPS gives a field.
+/// Returns the number of a field in a picture's PPS.
 pub fn in_pps(picture: &Picture<'_>, field: u16) -> u32
     ensures { result ≡ number picture.now.pps field }
 {
     picture.pps().number(field)
 }
 
-/// The level of its SPS.
+/// Returns the level of a picture's SPS.
 #[tactic(auto, using(crate::proofs::Ids::level_below))]
 pub fn own_level(picture: &Picture<'_>) -> u8
     ensures { result ≡ number picture.now.sps ptl_fields.general_level_idc }

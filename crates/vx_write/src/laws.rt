@@ -1,10 +1,10 @@
-//! Laws of units that are written: functions that do nothing, each with a law as its contract.
+//! Laws of written units. Each function does nothing and has its law as its contract.
 ghost use Rattle.vx_write.specs.Again.{EndStands, SeiUnitsAreRead, SetUnitsAreRead, UnitsStand};
 
 use vx_aps::spelled_is_aps;
 use vx_pic::readers_are_unique;
 
-/// The units of sets and of messages are read as these.
+/// If the unit of a set or of messages is written, then readers of H.266 read it as that set or these messages.
 pub fn set_units_are_read()
     ensures sets { SetUnitsAreRead }
     ensures messages { SeiUnitsAreRead }
@@ -16,7 +16,7 @@ pub fn set_units_are_read()
     readers_are_unique();
 }
 
-/// A unit of a type and a TemporalId that isn't too long can stand in a byte stream (H.266 Annex B), and so can an end of sequence.
+/// If a unit isn't longer than a unit may be, then it can stand in a byte stream, and so can an end of sequence (H.266 Annex B).
 pub fn units_stand()
     ensures units { UnitsStand }
     ensures end { EndStands }

@@ -1,4 +1,4 @@
-//! Units that are written one behind another.
+//! Writing units one after another.
 ghost use Rattle.std.specs.Prelude.{◌≡◌, [], ◌∷◌, map, option_copied, option_to_list};
 ghost use Rattle.vx_pic.specs.Written.{eos_units};
 ghost use Rattle.vx_write.specs.Writing.{Takes};
@@ -10,13 +10,17 @@ use vx_io::{Sink, SinkFailed};
 const END_OF_SEQUENCE: [u8; 2] = [0, 0xA9];
 
 /// Writes a unit.
+///
+/// *Errors:* [`SinkFailed`]; a proper prefix is written.
 pub fn write_one<K: Sink>(out: &mut K, unit: &[u8]) -> Result<(), SinkFailed>
     ensures { Takes (K.bytes_taken out.old) (K.bytes_taken out.new) (K.write_faults out.old) (K.write_faults out.new) (unit.now ∷ []) result }
 {
     write_unit(out, &[], unit)
 }
 
-/// Writes an end of sequence, where there is one.
+/// Writes an end of sequence if `after_eos`.
+///
+/// *Errors:* [`SinkFailed`]; a proper prefix is written.
 pub fn write_end<K: Sink>(out: &mut K, after_eos: bool) -> Result<(), SinkFailed>
     ensures { Takes (K.bytes_taken out.old) (K.bytes_taken out.new) (K.write_faults out.old) (K.write_faults out.new) (eos_units after_eos) result }
 {
@@ -26,7 +30,9 @@ pub fn write_end<K: Sink>(out: &mut K, after_eos: bool) -> Result<(), SinkFailed
     Ok(())
 }
 
-/// Writes a unit, where there is one.
+/// Writes a unit, if there is one.
+///
+/// *Errors:* [`SinkFailed`]; a proper prefix is written.
 pub fn write_some<K: Sink>(out: &mut K, unit: Option<&[u8]>) -> Result<(), SinkFailed>
     ensures { Takes (K.bytes_taken out.old) (K.bytes_taken out.new) (K.write_faults out.old) (K.write_faults out.new) (option_to_list (option_copied unit.entry)) result }
 {
@@ -36,7 +42,9 @@ pub fn write_some<K: Sink>(out: &mut K, unit: Option<&[u8]>) -> Result<(), SinkF
     }
 }
 
-/// Writes units, one behind another.
+/// Writes units, one after another.
+///
+/// *Errors:* [`SinkFailed`]; a proper prefix is written.
 pub fn write_all_of<K: Sink>(out: &mut K, units: &[Vec<u8>]) -> Result<(), SinkFailed>
     ensures { Takes (K.bytes_taken out.old) (K.bytes_taken out.new) (K.write_faults out.old) (K.write_faults out.new) (map (λ unit. unit.items) units.now) result }
 {

@@ -1,4 +1,4 @@
-//! Sets that are sent where a receiver doesn't have them.
+//! Sending sets that a receiver doesn't have.
 ghost use Rattle.std.specs.Prelude.{◌≡◌, ◌<◌, List, [], ◌∷◌, ◌++◌, map, IfOk, OnErr};
 ghost use Rattle.vx_pic.specs.Written.{Set, SetUnit};
 ghost use Rattle.vx_pic.specs.Resident.{kept_for};
@@ -11,7 +11,9 @@ use crate::written::{NeededSet, tid_of_unit, unit_of};
 use std::alloc::{AllocError, Global};
 use vx_pic::is_irap_or_gdr;
 
-/// Makes the unit of a set, unless the set is resident.
+/// Appends the unit of a set to `units` and records it in `slots`, unless the set is resident.
+///
+/// *Errors:* [`AllocError`] if memory runs out; `slots` is unchanged.
 pub fn send(
     alloc: Global,
     slots: &mut Slots,
@@ -35,7 +37,7 @@ pub fn send(
     Ok(())
 }
 
-/// Forgets what was sent, before a picture of an IRAP or GDR type: a receiver may begin there.
+/// Forgets what was sent if `nal_type` is an IRAP or GDR type, because a receiver may begin there.
 pub fn forget_before(slots: &mut Slots, nal_type: u8)
     ensures { (history : List SetUnit) → AreLastOf history slots.old → AreLastOf (kept_for nal_type history) slots.new }
 {

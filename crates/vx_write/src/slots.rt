@@ -37,7 +37,7 @@ impl Model for SentSet {
 impl SentSet {
     ghost use Rattle.std.specs.Prelude.{◌≡◌, ◌&&◌, nat_le, IfOk};
 
-    /// A set that is sent, in a unit of this TemporalId.
+    /// Makes the record of a set that is sent in a unit with this TemporalId.
     fn new(alloc: Global, set: NeededSet<'_>, temporal_id: u8) -> Result<SentSet, AllocError>
         ensures { IfOk result (λ sent. sent ≡ record { set = set_lent set.entry; temporal_id = temporal_id }) }
     {
@@ -50,21 +50,21 @@ impl SentSet {
         })
     }
 
-    /// Whether it is of the type and the id of another.
+    /// Returns whether it has the type and id of `set`.
     fn is_of(&self, set: NeededSet<'_>) -> bool
         ensures { result ≡ resident.same_slot self.now.set (set_lent set.entry) }
     {
         same_slot(&self.set, self.id, set)
     }
 
-    /// Whether it is the same as another, and can be decoded with pictures of this TemporalId.
+    /// Returns whether it is the same set, and can be decoded with pictures of this TemporalId.
     fn serves(&self, temporal_id: u8, set: NeededSet<'_>) -> bool
         ensures { result ≡ (resident.same_set self.now.set (set_lent set.entry) && nat_le self.now.temporal_id temporal_id) }
     {
         same_set(&self.set, set) && self.temporal_id <= temporal_id
     }
 
-    /// Whether it is a PPS of this id.
+    /// Returns whether it is a PPS with this id.
     #[tactic(auto, using(crate::proofs::Vacant::pps_id_of))]
     fn is_pps(&self, id: u32) -> bool
         ensures { result ≡ resident.same_slot self.now.set (a_pps_of id) }
@@ -75,7 +75,7 @@ impl SentSet {
         }
     }
 
-    /// Whether it is the PPS of these items, but with this id, and can be decoded with pictures of this TemporalId.
+    /// Returns whether it is the PPS of these items under this id, and can be decoded with pictures of this TemporalId.
     fn serves_pps_as(&self, temporal_id: u8, pps: &[Item], id: u32) -> bool
         ensures { result ≡ (resident.same_set self.now.set (a_pps (pps_with_id id pps.now)) && nat_le self.now.temporal_id temporal_id) }
     {
@@ -83,7 +83,7 @@ impl SentSet {
     }
 }
 
-/// Puts a set in the place of another.
+/// Replaces set `i`.
 fn replace(sets: &mut Vec<SentSet>, i: usize, sent: SentSet)
     requires { i < length sets.old.items }
     ensures { sets.new.items ≡ slice_set sets.old.items i sent }
@@ -93,7 +93,8 @@ fn replace(sets: &mut Vec<SentSet>, i: usize, sent: SentSet)
 
 /// The sets that were sent: the last one of each type and id.
 ///
-/// It is seen as the list of them.
+/// A set is *resident* if the last one sent of its type and id, since the last IRAP or GDR picture, is the same set and has no higher
+/// TemporalId than the picture. *Model:* the list of these sets.
 #[derive(Drop)]
 pub struct Slots {
     sets: Vec<SentSet>,
@@ -109,7 +110,7 @@ impl Model for Slots {
 }
 
 impl Slots {
-    /// None. Takes no memory.
+    /// Makes a list of no sets. Takes no memory.
     pub fn new(alloc: Global) -> Slots
         ensures { result ≡ [] }
     {
@@ -118,14 +119,14 @@ impl Slots {
         }
     }
 
-    /// Forgets all.
+    /// Forgets all sets.
     pub fn clear(&mut self)
         ensures { self.new ≡ [] }
     {
         self.sets.clear();
     }
 
-    /// Where the one of a set's type and id stands.
+    /// Returns the index of the set with the type and id of `set`.
     fn place_of(&self, set: NeededSet<'_>) -> Option<usize>
         ensures { IsPlace (set_lent set.entry) self.now result }
     {
@@ -137,7 +138,7 @@ impl Slots {
         None
     }
 
-    /// Whether the one of a set's type and id is the same set, and can be decoded with pictures of this TemporalId.
+    /// Returns whether the last set of its type and id is the same set, and can be decoded with pictures of this TemporalId.
     pub fn serves(&self, temporal_id: u8, set: NeededSet<'_>) -> bool
         ensures { result ≡ held_serves temporal_id (set_lent set.entry) self.now }
     {
@@ -147,7 +148,7 @@ impl Slots {
         }
     }
 
-    /// Whether nothing was sent of a set's type and id.
+    /// Returns whether no set of its type and id was sent.
     pub fn is_vacant(&self, set: NeededSet<'_>) -> bool
         ensures { result ≡ is_vacant (set_lent set.entry) self.now }
     {
@@ -157,7 +158,7 @@ impl Slots {
         }
     }
 
-    /// Where the PPS of an id stands.
+    /// Returns the index of the PPS with this id.
     fn place_of_pps(&self, id: u32) -> Option<usize>
         ensures { IsPlace (a_pps_of id) self.now result }
     {
@@ -169,7 +170,7 @@ impl Slots {
         None
     }
 
-    /// Whether no PPS of this id was sent.
+    /// Returns whether no PPS with this id was sent.
     pub fn is_pps_vacant(&self, id: u32) -> bool
         ensures { result ≡ is_vacant (a_pps_of id) self.now }
     {
@@ -179,8 +180,9 @@ impl Slots {
         }
     }
 
-    /// Whether a PPS is resident with another id: the last one sent with that id is the same but for it, and can be decoded with
-    /// pictures of this TemporalId.
+    /// Returns whether a PPS is resident under another id.
+    ///
+    /// That is: the last PPS sent under `id` is the same except for its id, and can be decoded with pictures of this TemporalId.
     pub fn serves_pps_as(&self, temporal_id: u8, pps: &Pps, id: u32) -> bool
         ensures { result ≡ held_serves temporal_id (a_pps (pps_with_id id pps.now)) self.now }
     {
@@ -191,7 +193,9 @@ impl Slots {
         }
     }
 
-    /// Puts a set, sent in a unit of this TemporalId, into the place of the one of its type and id.
+    /// Records a set that is sent in a unit with this TemporalId, in place of the one of its type and id.
+    ///
+    /// *Errors:* [`AllocError`] if memory runs out; nothing changes.
     pub fn put(
         &mut self,
         alloc: Global,

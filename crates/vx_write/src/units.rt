@@ -1,4 +1,4 @@
-//! Units of parameter sets, and of messages.
+//! Units of parameter sets and of messages.
 ghost use Rattle.std.specs.Prelude.{◌≡◌, ℕ, ◌<◌, length, option_map, IfOk};
 ghost use Rattle.vx_bits.specs.Codes.{EndsInNoZero};
 ghost use Rattle.vx_pic.specs.Written.{an_sps, a_pps, an_aps};
@@ -11,7 +11,9 @@ use vx_pps::{Pps, write_pps};
 use vx_sei::{MessageList, write_sei};
 use vx_sps::{Sps, write_sps};
 
-/// The unit of layer 0 of a type, a TemporalId and an RBSP (H.266 7.3.1).
+/// Makes the unit of layer 0 with this type, TemporalId and RBSP (H.266 7.3.1).
+///
+/// *Errors:* [`AllocError`] if memory runs out.
 pub fn plain_unit(
     alloc: Global,
     nal_type: u8,
@@ -30,7 +32,9 @@ pub fn plain_unit(
     escape(alloc, &bytes)
 }
 
-/// The unit of an SPS, whose TemporalId is 0 (H.266 7.4.2.2).
+/// Makes the unit of an SPS, whose TemporalId is 0 (H.266 7.4.2.2).
+///
+/// *Errors:* [`AllocError`] if memory runs out.
 pub fn sps_unit(alloc: Global, sps: &Sps) -> Result<Vec<u8>, AllocError>
     ensures { (tid : ℕ) → IfOk result (λ unit. IsSetUnit tid (an_sps sps.now) unit.items) }
 {
@@ -39,7 +43,9 @@ pub fn sps_unit(alloc: Global, sps: &Sps) -> Result<Vec<u8>, AllocError>
     Ok(unit)
 }
 
-/// The unit of a PPS for a picture of this TemporalId.
+/// Makes the unit of a PPS for a picture of this TemporalId.
+///
+/// *Errors:* [`AllocError`] if memory runs out.
 pub fn pps_unit(alloc: Global, pps: &Pps, temporal_id: u8) -> Result<Vec<u8>, AllocError>
     requires { temporal_id < 7 }
     ensures { IfOk result (λ unit. IsSetUnit temporal_id (a_pps pps.now) unit.items) }
@@ -49,7 +55,9 @@ pub fn pps_unit(alloc: Global, pps: &Pps, temporal_id: u8) -> Result<Vec<u8>, Al
     Ok(unit)
 }
 
-/// The unit of an adaptation parameter set for a picture of this TemporalId: its type and id, and its body (H.266 7.3.2.6).
+/// Makes the unit of an adaptation parameter set for a picture of this TemporalId: its type and id, and its body (H.266 7.3.2.6).
+///
+/// *Errors:* [`AllocError`] if memory runs out.
 pub fn aps_unit(
     alloc: Global,
     kind: u8,
@@ -70,7 +78,9 @@ pub fn aps_unit(
     plain_unit(alloc, PREFIX_APS_NUT, temporal_id, &rbsp)
 }
 
-/// The SEI unit of messages for a picture of this TemporalId; None where there are no messages.
+/// Makes the SEI unit of messages for a picture of this TemporalId; `None` if there are no messages.
+///
+/// *Errors:* [`AllocError`] if memory runs out.
 pub fn sei_unit(
     alloc: Global,
     messages: &MessageList,

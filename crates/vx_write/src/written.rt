@@ -1,4 +1,4 @@
-//! Sets that are written.
+//! The sets that are written.
 ghost use Rattle.std.specs.Prelude.{◌≡◌, ◌<◌, drop, IfOk};
 ghost use Rattle.vx_pic.specs.Sets as sets;
 ghost use Rattle.vx_pic.specs.Resident as resident;
@@ -17,7 +17,7 @@ use vx_pic::same_items;
 use vx_pps::Pps;
 use vx_sps::Sps;
 
-/// A set, as it is kept.
+/// A set that is kept.
 #[derive(Drop)]
 pub(crate) enum WrittenSet {
     /// The items of a sequence parameter set.
@@ -28,18 +28,18 @@ pub(crate) enum WrittenSet {
     Aps(Aps),
 }
 
-/// An adaptation parameter set that is needed: its type, its id and its body.
+/// An adaptation parameter set that a picture needs: its type, its id and its body.
 #[derive(Clone, Copy)]
 pub struct NeededAps<'a> {
     /// aps_params_type
     pub kind: u8,
     /// aps_adaptation_parameter_set_id
     pub id: u8,
-    /// The bytes of the RBSP behind the first.
+    /// The bytes of the RBSP after the first.
     pub body: &'a [u8],
 }
 
-/// A set that a picture needs, as it is lent.
+/// A set that a picture needs, lent.
 #[derive(Clone, Copy)]
 pub enum NeededSet<'a> {
     /// A sequence parameter set.
@@ -50,14 +50,14 @@ pub enum NeededSet<'a> {
     Aps(NeededAps<'a>),
 }
 
-/// Whether two byte strings are the same.
+/// Returns whether two byte strings are equal.
 fn same_bytes(a: &[u8], b: &[u8]) -> bool
     ensures { result ≡ resident.same_bytes a.now b.now }
 {
     a == b
 }
 
-/// An adaptation parameter set with this body.
+/// Makes an adaptation parameter set with this body.
 fn aps_of(alloc: Global, kind: u8, id: u8, bytes: &[u8]) -> Result<Aps, AllocError>
     ensures { IfOk result (λ aps. aps ≡ record { kind = kind; id = id; body = bytes.now }) }
 {
@@ -65,7 +65,7 @@ fn aps_of(alloc: Global, kind: u8, id: u8, bytes: &[u8]) -> Result<Aps, AllocErr
     Ok(Aps { kind, id, body })
 }
 
-/// A set to keep.
+/// Copies a set to keep it.
 pub(crate) fn kept(alloc: Global, set: NeededSet<'_>) -> Result<WrittenSet, AllocError>
     ensures { IfOk result (λ kept. set_kept kept ≡ set_lent set.entry) }
 {
@@ -85,7 +85,7 @@ pub(crate) fn kept(alloc: Global, set: NeededSet<'_>) -> Result<WrittenSet, Allo
     }
 }
 
-/// The id of a set.
+/// Returns the id of a set.
 #[tactic(auto, unfolding(vx_pic::specs::Sets::sps_id, vx_pic::specs::Sets::pps_id))]
 pub(crate) fn id_of_set(set: NeededSet<'_>) -> u32
     ensures { result ≡ id_of (set_lent set.entry) }
@@ -97,7 +97,7 @@ pub(crate) fn id_of_set(set: NeededSet<'_>) -> u32
     }
 }
 
-/// Whether a set that is kept, with this id, is of the type and the id of another.
+/// Returns whether a kept set, with this id, has the type and id of `set`.
 pub(crate) fn same_slot(kept: &WrittenSet, id: u32, set: NeededSet<'_>) -> bool
     requires { id ≡ id_of (set_kept kept.now) }
     ensures { result ≡ resident.same_slot (set_kept kept.now) (set_lent set.entry) }
@@ -111,7 +111,7 @@ pub(crate) fn same_slot(kept: &WrittenSet, id: u32, set: NeededSet<'_>) -> bool
     }
 }
 
-/// Whether a set that is kept is the same as another.
+/// Returns whether a kept set is the same as `set`.
 pub(crate) fn same_set(kept: &WrittenSet, set: NeededSet<'_>) -> bool
     ensures { result ≡ resident.same_set (set_kept kept.now) (set_lent set.entry) }
 {
@@ -131,7 +131,7 @@ pub(crate) fn same_set(kept: &WrittenSet, set: NeededSet<'_>) -> bool
     }
 }
 
-/// The items behind the first.
+/// Returns the items after the first.
 fn behind_first(items: &[Item]) -> &[Item]
     ensures { result.now ≡ drop 1 items.now }
 {
@@ -141,7 +141,7 @@ fn behind_first(items: &[Item]) -> &[Item]
     }
 }
 
-/// Whether items are those of a PPS, but with this id.
+/// Returns whether items are those of a PPS under this id.
 fn same_with_id(items: &[Item], pps: &[Item], id: u32) -> bool
     ensures { result ≡ sets.same_items items.now (pps_with_id id pps.now) }
 {
@@ -153,7 +153,7 @@ fn same_with_id(items: &[Item], pps: &[Item], id: u32) -> bool
         && same_items(rest, behind_first(pps))
 }
 
-/// Whether a set that is kept is the PPS of these items, but with this id.
+/// Returns whether a kept set is the PPS of these items under this id.
 pub(crate) fn same_pps_as(kept: &WrittenSet, pps: &[Item], id: u32) -> bool
     ensures { result ≡ resident.same_set (set_kept kept.now) (a_pps (pps_with_id id pps.now)) }
 {
@@ -163,7 +163,7 @@ pub(crate) fn same_pps_as(kept: &WrittenSet, pps: &[Item], id: u32) -> bool
     }
 }
 
-/// The TemporalId of a set's unit, for a picture of this one.
+/// Returns the TemporalId of a set's unit, for a picture of this TemporalId.
 pub fn tid_of_unit(set: NeededSet<'_>, temporal_id: u8) -> u8
     ensures { result ≡ unit_tid temporal_id (set_lent set.entry) }
 {
@@ -173,7 +173,9 @@ pub fn tid_of_unit(set: NeededSet<'_>, temporal_id: u8) -> u8
     }
 }
 
-/// The unit of a set, for a picture of this TemporalId.
+/// Makes the unit of a set, for a picture of this TemporalId.
+///
+/// *Errors:* [`AllocError`] if memory runs out.
 pub fn unit_of(alloc: Global, set: NeededSet<'_>, temporal_id: u8) -> Result<Vec<u8>, AllocError>
     requires tid { temporal_id < 7 }
     requires set { CanBeWritten (set_lent set) }
