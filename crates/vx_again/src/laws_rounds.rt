@@ -1,4 +1,4 @@
-//! Laws of what is written for one round: functions that do nothing, each with a law as its contract.
+//! Laws of what is written for one round. Each function does nothing and has its law as its contract.
 ghost use Rattle.vx_again.specs.Frames.{SetsMakeTheFrame};
 ghost use Rattle.vx_again.specs.Rounds.{MergedHasItsBodies, MergedIsAlike, MergedIsWhole, MergedKeepsInputs, MergedSendsItsSets, MergedSetsAreInForce, MergedUnitsAreRead};
 
@@ -8,8 +8,10 @@ use vx_pic::{needed_is_body, needed_is_stored, readers_are_unique};
 use vx_pps::{read_slices_are_listable, sets_tell_partitions};
 use vx_sh::{first_bit_is_inside, reshaped_is_read_again, slice_has_filter, slice_scopes_agree};
 
-/// The sets that are rewritten for the frame of a round that breaks no rule make up a picture that is the frame: a
-/// subpicture for each source, whose id is its index, treated as a picture and not filtered across (H.266 7.4.3.4, 7.4.3.5).
+/// If a round breaks no rule, then the sets rewritten for its frame make up that frame.
+///
+/// It has a subpicture for each source, whose id is its index, and which is treated as a picture and not filtered across (H.266 7.4.3.4,
+/// 7.4.3.5).
 pub fn sets_make_the_frame()
     ensures { SetsMakeTheFrame }
 {
@@ -17,8 +19,7 @@ pub fn sets_make_the_frame()
     read_slices_are_listable();
 }
 
-/// The picture header and the slices that are written for a round are read as the plan says, by any readers that are those of
-/// H.266.
+/// If a round is written, then readers of H.266 read its picture header and slices as the plan says.
 pub fn merged_units_are_read()
     ensures { MergedUnitsAreRead }
 {
@@ -34,8 +35,7 @@ pub fn merged_units_are_read()
     readers_are_unique();
 }
 
-/// The slices that are written for a round are all those of its frame, in order, and have no more bytes than a picture may
-/// have.
+/// If a round is written, then its slices are all those of its frame, in order, and not too long.
 pub fn merged_is_whole()
     ensures { MergedIsWhole }
 {
@@ -43,14 +43,16 @@ pub fn merged_is_whole()
     read_slices_are_listable();
 }
 
-/// Of the sets that the picture of a round needs no two have one type and id, and exactly those are sent that aren't
-/// resident.
+/// If a round is written, then the needed sets that aren't resident are sent, and no others.
+///
+/// No two needed sets have the same type and id.
 pub fn merged_sends_its_sets()
     ensures { MergedSendsItsSets }
 {}
 
-/// They can be read again, and among them are all adaptation parameter sets that the slices and the header name
-/// (H.266 7.4.3.6).
+/// If a round is written, then its needed sets can be read again, and all named bodies are among them.
+///
+/// These are the adaptation parameter sets that the slices and the header name (H.266 7.4.3.6).
 pub fn merged_has_its_bodies()
     ensures { MergedHasItsBodies }
 {
@@ -60,8 +62,9 @@ pub fn merged_has_its_bodies()
     filter_names_once();
 }
 
-/// Each of them is the one in force for its header, and each adaptation parameter set among them is one of the picture that
-/// is read again.
+/// If a round is written, then each needed set is in force for its header.
+///
+/// Each adaptation parameter set among them is one of the picture that is read again.
 pub fn merged_sets_are_in_force()
     ensures { MergedSetsAreInForce }
 {
@@ -70,13 +73,14 @@ pub fn merged_sets_are_in_force()
     needed_is_body();
 }
 
-/// The header of the picture tells the same of counts as that of each picture of the round.
+/// If a round is written, then its header agrees with each picture's in all that counts depend on.
 pub fn merged_is_alike()
     ensures { MergedIsAlike }
 {}
 
-/// Read again, region k of the picture has the decoding inputs of the picture of source k, where all pictures of the round are
-/// of its kind.
+/// If a round is written, then its region k has source k's decoding inputs when read again.
+///
+/// All pictures of the round are of the written picture's kind.
 pub fn merged_keeps_inputs()
     ensures { MergedKeepsInputs }
 {

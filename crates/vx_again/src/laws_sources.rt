@@ -1,4 +1,4 @@
-//! Laws of the pictures of sources: functions that do nothing, each with a law as its contract.
+//! Laws of the pictures of sources. Each function does nothing and has its law as its contract.
 ghost use Rattle.vx_again.specs.Played.{PlayedCanBeMerged};
 ghost use Rattle.vx_again.specs.Sources.{PicturesCanBeMerged};
 
@@ -8,7 +8,7 @@ use vx_ph::header_is_enabled;
 use vx_pic::{pictures_are_finished, played_are_finished, subpictures_have_slices};
 use vx_sh::{no_slice_filter, numbers_are_told, slice_scopes_agree};
 
-/// The pictures of units that can stand in a byte stream can be merged with others.
+/// If units can stand in a byte stream, then the pictures read from them can be merged with others.
 pub fn pictures_can_be_merged()
     ensures { PicturesCanBeMerged }
 {
@@ -23,7 +23,9 @@ pub fn pictures_can_be_merged()
     subpictures_have_slices();
 }
 
-/// So can those of files that are played one behind another.
+/// If the pictures of files can be merged, then so can those of the files played one after another.
+///
+/// Each picture that is joined may come first after a join.
 pub fn played_can_be_merged()
     ensures { PlayedCanBeMerged }
 {

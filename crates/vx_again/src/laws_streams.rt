@@ -1,4 +1,4 @@
-//! Laws of what is written for the rounds of several streams: functions that do nothing, each with a law as its contract.
+//! Laws of what is written for the rounds of several streams. Each function does nothing and has its law as its contract.
 ghost use Rattle.vx_again.specs.Streams.{MergedArePlanned, MergedKeepsMessages, MergedReadsAgain};
 ghost use Rattle.vx_again.specs.Whole.{MergedUnitsCanStand};
 
@@ -10,7 +10,7 @@ use vx_annexb::escaped_joins;
 use vx_pic::written_reads_again;
 use vx_write::set_units_are_read;
 
-/// What is written for the rounds of streams is as plans have to be, and has the kinds of each stream's pictures.
+/// If the rounds of streams are written, then their plans are valid, with the kinds of each stream's pictures.
 pub fn merged_are_planned()
     ensures { MergedArePlanned }
 {
@@ -22,7 +22,7 @@ pub fn merged_are_planned()
     set_units_are_read();
 }
 
-/// So it is read again: exactly the pictures that were written, and all whole.
+/// If the rounds of streams are written, then exactly the written pictures are read again, and all are whole.
 pub fn merged_reads_again()
     ensures { MergedReadsAgain }
 {
@@ -30,12 +30,12 @@ pub fn merged_reads_again()
     written_reads_again();
 }
 
-/// They have the messages of the first stream's pictures.
+/// If the rounds of streams are written, then the pictures have the messages of the first stream's pictures.
 pub fn merged_keeps_messages()
     ensures { MergedKeepsMessages }
 {}
 
-/// Their units can stand in a byte stream (H.266 Annex B).
+/// If the rounds of streams are written, then their units can stand in a byte stream (H.266 Annex B).
 pub fn merged_units_can_stand()
     ensures { MergedUnitsCanStand }
 {

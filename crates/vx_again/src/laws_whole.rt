@@ -1,4 +1,4 @@
-//! Laws of whole merges: functions that do nothing, each with a law as its contract.
+//! Laws of whole merges. Each function does nothing and has its law as its contract.
 ghost use Rattle.vx_again.specs.Regions.{PlannedAreOfMerge};
 ghost use Rattle.vx_again.specs.Whole.{MergeIsReadAgain};
 
@@ -10,8 +10,9 @@ use vx_extract::extraction_reads_again;
 use vx_pic::{pictures_are_finished, written_has_pictures};
 use vx_pps::{read_slices_are_listable, sets_tell_partitions};
 
-/// The pictures that are written for the rounds of streams are those of their merge: each has a subpicture at each corner, and
-/// subpicture K has the kinds and the decoding inputs of stream K's pictures.
+/// If the rounds of streams are written, then the written pictures are those of the streams' merge.
+///
+/// Each has a subpicture at each corner, and subpicture k has the kinds and the decoding inputs of stream k's pictures.
 pub fn planned_are_of_merge()
     ensures { PlannedAreOfMerge }
 {
@@ -23,8 +24,10 @@ pub fn planned_are_of_merge()
     merged_keeps_inputs();
 }
 
-/// What is written for the rounds of streams is read again as their merge, and each of its regions can be extracted, with the
-/// kinds and the decoding inputs of its stream (H.266 Annex B, C.7).
+/// If the rounds of streams are written as a merge, then the bytes are read again as that merge.
+///
+/// The readers are any readers of H.266. Each region can be extracted, with the kinds and the decoding inputs of its stream (H.266 Annex
+/// B, C.7).
 pub fn merge_is_read_again()
     ensures { MergeIsReadAgain }
 {

@@ -42,7 +42,7 @@ fn words_of(rt: &HostRuntime) -> io::Result<Vec<String>> {
     Ok(args.collect(rt.alloc())?)
 }
 
-/// Returns the exit status once the arguments are known: that of the command, or 4 if memory ran out before it started.
+/// Returns the exit status once the arguments are known: the command's, or 4 if memory ran out before it started.
 fn status_with_words(run: Result<u8, AllocError>) -> u8
     ensures ran { IfOk run (λ status. result ≡ status) }
     ensures memory { OnErr run (result ≡ 4) }
@@ -50,7 +50,7 @@ fn status_with_words(run: Result<u8, AllocError>) -> u8
     run.unwrap_or(4)
 }
 
-/// Returns the exit status if there are no arguments to run: 4 for lack of memory, 2 if an argument isn't text.
+/// Returns the exit status without arguments: 4 for lack of memory, 2 if an argument isn't text.
 fn status_without_words(error: &io::Error) -> u8
     ensures memory { error_kind error.now ≡ ErrorKind.OutOfMemory → result ≡ 4 }
     ensures text { error_kind error.now ≢ ErrorKind.OutOfMemory → result ≡ 2 }
@@ -74,8 +74,9 @@ fn run_on_system(rt: &HostRuntime, words: &[String]) -> Result<u8, AllocError>
     run_on_files(rt, words, &mut out, &mut err)
 }
 
-/// Returns how many bytes the output buffer holds: 0 for `show`, so that its lines between two reads are written at once, before the next
-/// read.
+/// Returns how many bytes the output buffer holds.
+///
+/// They are 0 for `show`, so that its lines between two reads are written at once, before the next read.
 fn write_len(words: &[String]) -> usize {
     match words.first() {
         Some(word) if word.as_str() == "show" => 0,

@@ -1,5 +1,7 @@
-//! What no stored case of `vx_cases` can say, or can say only in very many digits: a sink that is full, each write of
-//! `show` failing once, words without text, the names and the regions of files, how the last write ends, and runs on files.
+//! Tests of what no stored case of `vx_cases` can say, or only in very many digits.
+//!
+//! They cover a sink that is full, each write of `show` failing once, empty arguments, the names and the regions of files, how the last
+//! write ends, and runs on files.
 
 use crate::files::run_on_files;
 use crate::open::{Opener, open_all};
@@ -12,11 +14,11 @@ use vx_io::{MemorySink, MemorySource, Source, SourceFailed};
 use vx_merge::{Lengths, lengths};
 use vx_run::{GatherSink, file_count, file_word, finish, play_region, run};
 
-/// A parameter set of a sequence, one of a picture, and a slice: a gray picture of 64 by 64 samples.
+/// A gray picture of 64 by 64 samples: an SPS, a PPS and a slice.
 const GRAY: &[u8] =
     b"\x00\x00\x00\x01\x00\x79\x00\x03\x02\x33\x80\x00\x00\x82\x04\x12\x00\x3d\xe0\x03\x00\x60\x80\x01\x00\x00\x00\x01\x00\x81\x00\x00\x41\x02\x08\x98\x40\x80\x00\x00\x00\x01\x00\x41\xc4\x18\x5a\xa7\x80";
 
-/// What is shown of it.
+/// What `show` writes of it.
 const LINES: &[u8] = br#"{"bytes":20,"offset":4,"tid":0,"type":15}
 {"ctu":64,"height":64,"sps":0,"subpictures":1,"width":64}
 {"bytes":10,"offset":28,"tid":0,"type":16}
@@ -25,7 +27,7 @@ const LINES: &[u8] = br#"{"bytes":20,"offset":4,"tid":0,"type":15}
 {"clvss":true,"picture":0,"poc":0,"slices":1,"subpictures":1}
 "#;
 
-/// What is shown of it behind another.
+/// What `show` writes of it after another one.
 const SECOND_LINES: &[u8] = br#"{"bytes":20,"offset":53,"tid":0,"type":15}
 {"ctu":64,"height":64,"sps":0,"subpictures":1,"width":64}
 {"bytes":10,"offset":77,"tid":0,"type":16}
@@ -34,8 +36,10 @@ const SECOND_LINES: &[u8] = br#"{"bytes":20,"offset":53,"tid":0,"type":15}
 {"clvss":true,"picture":1,"poc":0,"slices":1,"subpictures":1}
 "#;
 
-/// The words of a run, the bytes of its source, and the room of its sink, the pieces that it takes and the writes that
-/// fail; and what comes of it.
+/// A run of the program, and what is expected of it.
+///
+/// It has the arguments, the bytes of the source, the room of the sink, the pieces that it takes and the writes that fail; and the
+/// expected output, line and status.
 #[derive(Clone, Copy)]
 struct Row<'a> {
     words: &'a [&'a str],
@@ -48,7 +52,7 @@ struct Row<'a> {
     status: u8,
 }
 
-/// A write of what is shown of the gray picture fails.
+/// A write of `show` fails.
 const FAILED: Row<'static> = Row {
     words: &["show", "a.266"],
     bytes: GRAY,
@@ -60,7 +64,7 @@ const FAILED: Row<'static> = Row {
     status: 3,
 };
 
-/// Where there is room for k bytes, those were written.
+/// If there is room for k bytes, then those are written.
 #[test]
 fn writes_what_there_is_room_for(rt: HostRuntime) -> Result<(), Fail> {
     let twice = joined(rt.alloc(), GRAY, GRAY)?;
@@ -78,7 +82,7 @@ fn writes_what_there_is_room_for(rt: HostRuntime) -> Result<(), Fail> {
     check_rooms(&rt, rt.alloc(), &extracted, &twice)
 }
 
-/// A byte a write, and the k-th write fails: k bytes were written.
+/// If each write takes a byte and write k fails, then k bytes are written.
 #[test]
 fn shows_what_came_before_a_failed_write(rt: HostRuntime) -> Result<(), Fail> {
     let twice = joined(rt.alloc(), GRAY, GRAY)?;
@@ -106,7 +110,7 @@ fn check_rooms(rt: &impl Abort, alloc: Global, row: &Row<'_>, whole: &[u8]) -> R
     Ok(())
 }
 
-/// Runs it with each write of a byte failing.
+/// Runs the program with each write of a byte failing.
 fn check_failing(rt: &impl Abort, alloc: Global, row: &Row<'_>, whole: &[u8]) -> Result<(), Fail> {
     for k in 0..whole.len() {
         let failing = Row {
@@ -120,7 +124,7 @@ fn check_failing(rt: &impl Abort, alloc: Global, row: &Row<'_>, whole: &[u8]) ->
     Ok(())
 }
 
-/// Words that are no command, since one of them has no text.
+/// Arguments that are no command because one of them is empty.
 #[test]
 fn understands_no_empty_word(rt: HostRuntime) -> Result<(), Fail> {
     let rows: [&[&str]; 3] = [
@@ -140,7 +144,7 @@ fn understands_no_empty_word(rt: HostRuntime) -> Result<(), Fail> {
     Ok(())
 }
 
-/// Runs the program as the row says, and compares what it wrote and answered. What it tells is taken a byte at a time.
+/// Runs the program as the row says, and compares the output, the line and the status. The line is taken a byte at a time.
 fn check_row(rt: &impl Abort, alloc: Global, row: &Row<'_>) -> Result<(), Fail> {
     let words = words_of(alloc, row.words)?;
     let mut sources: Vec<Box<dyn Source>> = Vec::new(alloc);
@@ -150,14 +154,14 @@ fn check_row(rt: &impl Abort, alloc: Global, row: &Row<'_>) -> Result<(), Fail> 
     run_row(rt, alloc, row, &words, &mut sources)
 }
 
-/// A source of these bytes.
+/// Makes a source of these bytes.
 fn source(alloc: Global, bytes: &[u8]) -> Result<Box<dyn Source>, AllocError> {
     let bytes = Vec::from_slice(alloc, bytes)?;
     let source = MemorySource::new(bytes, Vec::new(alloc), Vec::new(alloc));
     Ok(Box::new(alloc, source)?)
 }
 
-/// Runs the program with these words over these sources as the row says, and compares.
+/// Runs the program with these arguments over these sources as the row says, and compares.
 fn run_row(
     rt: &impl Abort,
     alloc: Global,
@@ -172,10 +176,10 @@ fn run_row(
     compare(rt, row, status, out.bytes(), err.bytes())
 }
 
-/// Compares what the program wrote and answered with what the row says.
+/// Compares what the program wrote and returned with what the row says.
 fn compare(rt: &impl Abort, row: &Row<'_>, status: u8, out: &[u8], err: &[u8]) -> Result<(), Fail> {
     if status == 4 {
-        // No row expects it: want of memory, behind what was written.
+        // No row expects lack of memory; then the output is a prefix.
         assert!(rt; row.out.starts_with(out), "out");
         assert!(rt; b"no memory\n".as_slice().starts_with(err), "err");
         return Err(AllocError.into());
@@ -194,7 +198,7 @@ fn words_of(alloc: Global, words: &[&str]) -> Result<Vec<String>, AllocError> {
     Ok(all)
 }
 
-/// A sink with this room, which takes such pieces, and of which such writes fail.
+/// Makes a sink with this room that takes such pieces, and whose writes fail so.
 fn sink(
     alloc: Global,
     room: usize,
@@ -205,7 +209,7 @@ fn sink(
     MemorySink::new(alloc, room, taken, Vec::from_slice(alloc, failing)?)
 }
 
-/// The files of a merge stand behind the first equals signs. Words that are no command name none.
+/// The files of a merge come after the first equals signs. Arguments that are no command name none.
 #[test]
 fn names_files(rt: HostRuntime) -> Result<(), Fail> {
     check_names(&rt, rt.alloc(), &["show", "a.266"], &["a.266"])?;
@@ -225,7 +229,7 @@ fn check_names(rt: &impl Abort, alloc: Global, words: &[&str], files: &[&str]) -
     Ok(())
 }
 
-/// Files of `play` with the same corner are one region's, and regions are numbered as they come first.
+/// Files of `play` with equal corners are in one region, and regions are numbered in order of appearance.
 #[test]
 fn tells_regions(rt: HostRuntime) -> Result<(), Fail> {
     let files = ["play", "64,0=a", "0,0=b", "64,0=c", "0,64=d", "0,0=e"];
@@ -267,7 +271,7 @@ fn tells_which_sources_have_ended(rt: HostRuntime) -> Result<(), Fail> {
     Ok(())
 }
 
-/// A writer of which every write fails.
+/// A writer whose writes all fail.
 #[derive(Drop)]
 struct Broken;
 
@@ -281,7 +285,7 @@ impl Write for Broken {
     }
 }
 
-/// By the status so far, the status and the line where what was gathered can't be written.
+/// For each status so far: the status and the line if the buffered output can't be written.
 const UNWRITTEN: [(u8, u8, &[u8]); 5] = [
     (0, 3, b"write fault\n"),
     (1, 3, b"write fault\n"),
@@ -298,7 +302,7 @@ fn a_failed_last_write_is_told(rt: HostRuntime) -> Result<(), Fail> {
     Ok(())
 }
 
-/// Compares the status and the line where the last write to a writer ends a run of this status.
+/// Compares the status and the line if the last write to a writer ends a run of this status.
 fn check_finish<W: Drop + Write>(
     rt: &impl Abort,
     alloc: Global,
@@ -324,7 +328,7 @@ fn a_last_write_changes_no_status(rt: HostRuntime) -> Result<(), Fail> {
     Ok(())
 }
 
-/// Two files of a byte, by their names. There is no other one.
+/// Opens two files of one byte each, by their names, and no other.
 struct TwoFiles;
 
 impl Opener for TwoFiles {
@@ -362,7 +366,9 @@ fn opens_each_file(rt: HostRuntime) -> Result<(), Fail> {
     Ok(())
 }
 
-/// Words before a file of the gray picture, or all words where it is `false`; the status, what is made and the line.
+/// A run on files: arguments, and the expected status, output and line.
+///
+/// The arguments come before a file of the gray picture, or are all arguments if the flag is `false`.
 type Run = (
     &'static [&'static str],
     bool,
@@ -407,7 +413,7 @@ fn runs_on_files(rt: HostRuntime) -> Result<(), Fail> {
     Ok(())
 }
 
-/// Runs the program on files, and compares the status, what is made and the line.
+/// Runs the program on files, and compares the status, the output and the line.
 fn check_run(
     rt: &impl Abort,
     host: &HostRuntime,
@@ -424,7 +430,7 @@ fn check_run(
     Ok(())
 }
 
-/// A stream beside itself as its merge, and at another corner.
+/// A stream verified as its own merge, and at another corner.
 const COMPARED: [(&str, u8, &[u8], &[u8]); 2] = [
     ("0,0", 0, b"yes pictures 1\n", b""),
     ("64,0", 1, b"", b"C2 picture 0 source 1\n"),
@@ -445,7 +451,7 @@ fn compares_files(rt: HostRuntime) -> Result<(), Fail> {
     Ok(())
 }
 
-/// The status of a run, and what it makes.
+/// Returns the status of a run, and its output.
 fn made_of(
     rt: &HostRuntime,
     words: &[String],

@@ -165,8 +165,14 @@ pub extern "C" fn gq_extractor_end(alloc: Global, handle: &mut Handle) -> u8
 
 /// Advances as far as the bytes allow.
 ///
-/// Returns `DONE` if a picture is to be taken, which `picture` describes, `WAITS` if bytes are needed, `ENDED` at the end, `REFUSED` for
-/// a broken rule, `NO_MEMORY`, or `MISUSED` if the handle isn't that of an extractor. Only `DONE` changes `picture`.
+/// - `DONE`: a picture is to be taken, and `picture` describes it.
+/// - `WAITS`: bytes are needed.
+/// - `ENDED`: there are no more pictures.
+/// - `REFUSED`: a rule is broken.
+/// - `NO_MEMORY`: there is no memory.
+/// - `MISUSED`: the handle isn't that of an extractor.
+///
+/// Only `DONE` changes `picture`.
 #[unsafe(no_mangle)]
 pub extern "C" fn gq_extractor_next(
     alloc: Global,
@@ -203,9 +209,10 @@ pub extern "C" fn gq_extractor_take(alloc: Global, handle: &mut Handle, into: &m
     )
 }
 
-/// Writes the line that says why it stopped to `into`, cut to its length, and returns the length of the whole line.
+/// Writes the line that says why it stopped to `into`, and returns the line's length.
 ///
-/// Returns 0 if it isn't stopped, if there is no memory for the line, or if the handle isn't that of an extractor.
+/// The line is cut to the length of `into`. Returns 0 if the extractor isn't stopped, if there is no memory for the line, or if the
+/// handle isn't that of an extractor.
 #[unsafe(no_mangle)]
 pub extern "C" fn gq_extractor_line(alloc: Global, handle: &mut Handle, into: &mut [u8]) -> usize
     ensures kept { handle.new.state ≡ handle.old.state }

@@ -7,9 +7,9 @@ use std::alloc::Global;
 use vx_push::stop_line;
 use vx_run::Stop;
 
-/// Copies the line of a stop to the beginning of `into`, cut to its length, and returns the length of the whole line.
+/// Copies the line of a stop to the beginning of `into`, and returns the line's length.
 ///
-/// Returns 0 if there is no memory for the line.
+/// The line is cut to the length of `into`. Returns 0 if there is no memory for the line.
 pub(crate) fn tell(alloc: Global, stop: Stop, into: &mut [u8]) -> usize
     ensures { TellsLine (Some stop) into.old into.new result }
 {

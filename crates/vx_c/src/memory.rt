@@ -50,7 +50,7 @@ pub(crate) fn sources_in(
     }
 }
 
-/// Copies a prefix of `bytes` to the beginning of `into`, as much as there is room for, and returns its length.
+/// Copies a prefix of `bytes`, as much as fits, to the beginning of `into`, and returns its length.
 pub(crate) fn put(bytes: &[u8], into: &mut [u8]) -> usize
     ensures count { result ≡ min (length bytes.now) (length into.old) }
     ensures put { into.new ≡ take result bytes.now ++ drop result into.old }

@@ -180,9 +180,14 @@ pub extern "C" fn gq_merger_end(alloc: Global, handle: &mut Handle, source: usiz
 
 /// Advances as far as the bytes allow.
 ///
-/// Returns `DONE` if a picture is to be taken, which `picture` describes, `WAITS` if bytes of source `source` are needed, `ENDED` at the
-/// end, `REFUSED` for a broken rule, `NO_MEMORY`, or `MISUSED` if the handle isn't that of a merger. Only `DONE` changes `picture`, and
-/// only `WAITS` changes `source`.
+/// - `DONE`: a picture is to be taken, and `picture` describes it.
+/// - `WAITS`: bytes of source `source` are needed.
+/// - `ENDED`: there are no more pictures.
+/// - `REFUSED`: a rule is broken.
+/// - `NO_MEMORY`: there is no memory.
+/// - `MISUSED`: the handle isn't that of a merger.
+///
+/// Only `DONE` changes `picture`, and only `WAITS` changes `source`.
 #[unsafe(no_mangle)]
 pub extern "C" fn gq_merger_next(
     alloc: Global,
@@ -215,9 +220,10 @@ pub extern "C" fn gq_merger_take(alloc: Global, handle: &mut Handle, into: &mut 
     call_on!(handle, alloc, Merger, MISUSED, |mixer| take(mixer, into))
 }
 
-/// Writes the line that says why it stopped to `into`, cut to its length, and returns the length of the whole line.
+/// Writes the line that says why it stopped to `into`, and returns the line's length.
 ///
-/// Returns 0 if it isn't stopped, if there is no memory for the line, or if the handle isn't that of a merger.
+/// The line is cut to the length of `into`. Returns 0 if the merger isn't stopped, if there is no memory for the line, or if the handle
+/// isn't that of a merger.
 #[unsafe(no_mangle)]
 pub extern "C" fn gq_merger_line(alloc: Global, handle: &mut Handle, into: &mut [u8]) -> usize
     ensures kept { handle.new.state ≡ handle.old.state }

@@ -16,7 +16,7 @@ pub struct GqPicture {
     pub starts_sequence: bool,
 }
 
-/// Describes picture `number` of this kind, of which `bytes` bytes are written.
+/// Describes picture `number` of this kind, which has `bytes` bytes.
 pub(crate) fn told(number: u64, bytes: usize, kind: Kind) -> GqPicture
     ensures { result ≡ picture_by number bytes kind }
 {

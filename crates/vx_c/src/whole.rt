@@ -65,10 +65,14 @@ fn run_in_memory(
 
 /// Runs one of the program's commands on streams in memory. `err` receives the status line, `out` the output.
 ///
-/// Never writes past the room given. `MISUSED` is returned only if the arguments aren't valid UTF-8 or not understood, the streams aren't
-/// as many as the arguments name, or the lengths don't add up to the bytes; then always, except for lack of memory. The contract covers
-/// the status line and all lengths, not the content of `out`: that is `run`'s contract, which can't be restated here because the sources
-/// are boxed.
+/// Never writes past the room given. `MISUSED` is returned only in the following cases; then always, except for lack of memory:
+///
+/// - the arguments aren't valid UTF-8 or aren't understood,
+/// - the streams aren't as many as the arguments name,
+/// - the lengths don't add up to the bytes.
+///
+/// The contract covers the status line and all lengths, not the content of `out`: that is `run`'s contract, which can't be restated here
+/// because the sources are boxed.
 #[tactic(auto, using(crate::proofs::Telling::why_misused, crate::proofs::Telling::why_no_memory))]
 #[unsafe(no_mangle)]
 pub extern "C" fn gq_run(

@@ -1,7 +1,7 @@
-//! A law of the text: a function that does nothing, with the law as its contract.
+//! The law of the text. The function does nothing and has its law as its contract.
 ghost use Rattle.vx_explain.specs.Explained.{RulesAndFieldsAreExplained};
 
-/// There is something to tell of each rule and of each number of a field, and of no other word.
+/// If a word is a rule or the number of a field, then it has an explanation; others have none.
 pub fn rules_and_fields_are_explained()
     ensures { RulesAndFieldsAreExplained }
 {}

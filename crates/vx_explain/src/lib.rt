@@ -14,7 +14,7 @@ ghost use Rattle.vx_explain.specs.Explained as words;
 pub use laws::rules_and_fields_are_explained;
 use text::TEXT;
 
-/// The word that a part begins with.
+/// Returns the word that a part begins with.
 fn word_of(part: &[u8]) -> &[u8]
     ensures { result.now ≡ words.word_of part.now }
 {
@@ -25,8 +25,9 @@ fn word_of(part: &[u8]) -> &[u8]
     &part[..end]
 }
 
-/// What there is to tell of a word that is a rule, as `M8`, or the number of a field, as `606`: lines of at most 78 characters that begin
-/// with it. None of any other word.
+/// Returns the explanation of a rule, as `M8`, or of the number of a field, as `606`.
+///
+/// It is lines of at most 78 characters that begin with the word. Returns `None` for any other word.
 pub fn explanation(word: &[u8]) -> Option<&'static [u8]>
     ensures { option_copied result ≡ words.explanation word.now }
 {

@@ -12,10 +12,9 @@ use vx_sh::{numbers_are_told, slice_read_elsewhere, slice_scopes_agree};
 use vx_sps::{reshaped_keeps, reshaped_says};
 use vx_write::set_units_are_read;
 
-/// If sets are rewritten for a subpicture, then they make up its region: a picture with one subpicture, which has its id (H.266 7.4.3.4,
-/// 7.4.3.5).
+/// If sets are rewritten for a subpicture, then they make up its region, as a picture with one subpicture.
 ///
-/// They have the ids of the sets that they replace.
+/// That subpicture has the target's id (H.266 7.4.3.4, 7.4.3.5). The sets have the ids of those that they replace.
 pub fn rewritten_make_region()
     ensures made { RewrittenMakeRegion }
     ensures ids { RewrittenKeepIds }
@@ -50,9 +49,10 @@ pub fn rewritten_agree()
     lists_follow_items();
 }
 
-/// If sets are rewritten for a subpicture, then readers of H.266 read the picture's units alike under them and under its own.
+/// If sets are rewritten for a subpicture, then the picture's units are read alike under them.
 ///
-/// These units are the picture header and each slice of the subpicture.
+/// The units are the picture header and each slice of the subpicture; they are read under the picture's own sets and under the rewritten
+/// ones, by readers of H.266.
 pub fn rewritten_read_alike()
     ensures { RewrittenReadAlike }
 {
@@ -67,7 +67,7 @@ pub fn rewritten_read_alike()
     readers_are_unique();
 }
 
-/// If the units of a whole picture's subpicture are written, then its header and slices are read again as the plan says.
+/// If the subpicture of a whole picture is written, then its header and slices are read as planned.
 pub fn extracted_units_are_read()
     ensures { ExtractedUnitsAreRead }
 {
@@ -75,8 +75,7 @@ pub fn extracted_units_are_read()
     rewritten_read_alike();
 }
 
-/// If a picture has all its slices in order and isn't too long, then its written subpicture has all slices of the region in order and
-/// isn't too long either.
+/// If a picture is whole, in order and not too long, then so is its written subpicture.
 pub fn extracted_is_whole()
     ensures { ExtractedIsWhole }
 {}
@@ -89,14 +88,14 @@ pub fn extracted_sends_its_sets()
     ensures counts { ExtractedIsAlike }
 {}
 
-/// If a picture's adaptation parameter sets can be written and those that slices name are there, then the needed ones can be read again.
+/// If a picture's adaptation parameter sets can be written, then the needed ones can be read again.
 ///
-/// All that the slices name are among them.
+/// All that the slices name are among them. The premises include that those that slices name are there.
 pub fn extracted_has_its_bodies()
     ensures { ExtractedHasItsBodies }
 {}
 
-/// If subpictures of a stream's pictures are written, then the plans of these are valid, and have the counts of the pictures.
+/// If subpictures of a stream's pictures are written, then their plans are valid and have the pictures' counts.
 pub fn extracted_are_planned()
     ensures { ExtractedArePlanned }
 {
@@ -109,7 +108,7 @@ pub fn extracted_are_planned()
     edits_are_planned();
 }
 
-/// If subpictures of a stream's pictures are written, then what is read again are exactly the written pictures, and all are whole.
+/// If subpictures of a stream's pictures are written, then exactly these are read again, and all are whole.
 pub fn extracted_reads_again()
     ensures { ExtractedReadsAgain }
 {

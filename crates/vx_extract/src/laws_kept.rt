@@ -9,7 +9,7 @@ use vx_pic::needed_is_body;
 use vx_pps::{read_slices_are_listable, reshaped_has_its_tiles, sets_tell_partitions};
 use vx_sps::reshaped_says;
 
-/// If sets are rewritten for a subpicture, then the place of a slice in the region is its place in the subpicture (H.266 7.4.3.5).
+/// If sets are rewritten for a subpicture, then slices keep their places in it (H.266 7.4.3.5).
 ///
 /// A place is width and height, tiles and slices, and whether in-loop filters cross their borders.
 pub fn rewritten_keep_places()
@@ -24,7 +24,7 @@ pub fn rewritten_keep_places()
     reshaped_has_its_tiles();
 }
 
-/// If a subpicture is written, then the adaptation parameter sets that its slices name have the source's bodies when read again.
+/// If a subpicture is written, then the adaptation parameter sets that its slices name keep their bodies.
 pub fn extracted_keeps_bodies()
     ensures { ExtractedKeepsBodies }
 {
@@ -47,7 +47,7 @@ pub fn extracted_keeps_messages()
     ensures { ExtractedKeepsMessages }
 {}
 
-/// If a subpicture of all pictures is written, then all have the source's decoding inputs and messages when read again, in order.
+/// If a subpicture of all pictures is written, then they keep decoding inputs and messages, in order.
 pub fn all_keep_inputs()
     ensures inputs { AllKeepInputs }
     ensures messages { AllKeepMessages }

@@ -4,7 +4,7 @@ ghost use Rattle.vx_extract.specs.Ready.{PicturesAreInForce, PicturesAreReady, P
 use vx_pic::{pictures_are_finished, pictures_have_sets, subpictures_have_slices};
 use vx_pps::sets_tell_partitions;
 
-/// If pictures are read from units by readers of H.266, then the sets in force for each make up its layout.
+/// If readers of H.266 read pictures from units, then each picture's sets make up its layout.
 pub fn pictures_are_in_force()
     ensures { PicturesAreInForce }
 {
@@ -13,16 +13,16 @@ pub fn pictures_are_in_force()
     pictures_have_sets();
 }
 
-/// If pictures are read from units by readers of H.266, then their adaptation parameter sets can be written.
+/// If readers of H.266 read pictures from units, then their adaptation parameter sets can be written.
 ///
-/// Those that slices name are there, and their messages are carried.
+/// Those that slices name are there, and the pictures' messages are carried.
 pub fn pictures_have_their_readings()
     ensures { PicturesHaveTheirReadings }
 {
     pictures_are_finished();
 }
 
-/// If each picture up to a TemporalId has the subpicture, then the subpicture can be written for each and is read again.
+/// If each picture up to a TemporalId has the subpicture, then it can be written and is read again.
 pub fn pictures_are_ready()
     ensures { PicturesAreReady }
 {

@@ -7,10 +7,10 @@ use crate::laws_ready::pictures_are_ready;
 use vx_annexb::{escaped_is_unique, escaped_splits};
 use vx_pic::{kept_are_finished, pictures_are_finished, written_has_pictures};
 
-/// If units are written for a subpicture of a stream's pictures up to a TemporalId, then they are read again as exactly these pictures.
+/// If units are written for a subpicture of a stream's pictures, then exactly these pictures are read again.
 ///
-/// Each of these pictures has the subpicture, and no IRAP or GDR picture is left out (H.266 C.6). The pictures read again have the
-/// source's kinds, counts, decoding inputs and messages, and no rule refuses them.
+/// The pictures are those up to a TemporalId. Each has the subpicture, and no IRAP or GDR picture is left out (H.266 C.6). Read again,
+/// they have the source's kinds, counts, decoding inputs and messages, and no rule refuses them.
 pub fn extracted_units_read_again()
     ensures { ExtractedUnitsReadAgain }
 {
@@ -22,9 +22,9 @@ pub fn extracted_units_read_again()
     all_keep_inputs();
 }
 
-/// If bytes are written for a subpicture of a stream's pictures up to a TemporalId, then they are read again as exactly these pictures.
+/// If bytes are written for a subpicture of a stream's pictures, then exactly these pictures are read again.
 ///
-/// The premises and what the pictures have are those of [`extracted_units_read_again`].
+/// The premises, and what the pictures have, are those of [`extracted_units_read_again`].
 pub fn extraction_reads_again()
     ensures { ExtractionReadsAgain }
 {

@@ -55,7 +55,9 @@ fn is_of(kept: &Rewritten, picture: &Picture<'_>) -> bool
     kept.source.is_of(picture.sps(), picture.pps())
 }
 
-/// Returns the sets that are sent for a picture: the kept ones, if the picture has the same SPS and PPS.
+/// Returns the sets that are sent for a picture.
+///
+/// They are the kept ones if the picture has the same SPS and PPS.
 pub(crate) fn rewrite(
     alloc: Global,
     kept: Option<Rewritten>,

@@ -62,7 +62,7 @@ fn send_aps(
     }
 }
 
-/// Makes the units of the adaptation parameter sets that the subpicture names and that aren't resident, by rising type and id.
+/// Makes the units of the named adaptation parameter sets that aren't resident, by rising type and id.
 fn send_named(
     alloc: Global,
     slots: &mut Slots,

@@ -168,7 +168,7 @@ pub(crate) fn rewritten_sps(
 
 // ---- the PPS
 
-/// Returns the number of bits of an id, minus 1, and the id of the subpicture, if the PPS has it.
+/// Returns the bits of an id, minus 1, and the id of the subpicture, if the PPS has it.
 fn id_in_pps(picture: &Picture<'_>, target: u32) -> Option<(u32, u32)>
     ensures { result ≡ spec.id_in_pps picture.now target }
 {

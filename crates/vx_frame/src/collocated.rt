@@ -20,8 +20,9 @@ const I: u32 = 2;
 pub enum Collocated {
     /// The difference of its picture order count from the picture's own.
     Nearby(i64),
-    /// The low bits of its picture order count; and if stated, by how many cycles of these it precedes (DeltaPocMsbCycleLt, H.266
-    /// 7.4.10).
+    /// The low bits of its picture order count, and if stated the cycles of these between the pictures.
+    ///
+    /// The cycles are DeltaPocMsbCycleLt (H.266 7.4.10).
     Distant(u32, Option<u64>),
     /// There is no such entry.
     Absent,

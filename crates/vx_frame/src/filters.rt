@@ -21,7 +21,7 @@ use vx_pic::{Picture, body_named, filter_fields, luma_bodies};
 /// How many ids adaptive loop filters have.
 const MOST_FILTERS: usize = 8;
 
-/// The bodies of the adaptive loop filters in force in the slices of a round, as far as they were collected.
+/// The bodies of the adaptive loop filters in force in the slices of a round.
 #[derive(Drop)]
 pub struct RoundFilters<'a> {
     /// Each body once: those of all sources, or of the sources up to `too_many`.

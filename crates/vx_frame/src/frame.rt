@@ -34,8 +34,13 @@ pub(crate) struct RenamedPps {
 
 /// The frame of a round, made from its sets; it is kept as long as they stay the same.
 ///
-/// Its SPS and PPS are rewritten from source 0's: the frame's size and window, the level asked for or else the highest of the sources,
-/// the greatest DPB numbers, each region as a subpicture whose id is its index, and the tiles and slices of all pictures.
+/// Its SPS and PPS are rewritten from source 0's:
+///
+/// - the frame's size and window,
+/// - the level asked for, or else the highest of the sources,
+/// - the greatest DPB numbers,
+/// - each region as a subpicture whose id is its index,
+/// - the tiles and slices of all pictures.
 #[derive(Drop)]
 pub struct Frame {
     /// The key of each source's sets.
@@ -192,7 +197,7 @@ fn layout_of(alloc: Global, geometry: &FrameGeometry) -> Result<Layout, AllocErr
     }
 }
 
-/// Makes the SPS of a frame, with this level or the highest of its pictures, and its PPS under the id 0.
+/// Makes the frame's SPS, with this level or the highest of its pictures, and its PPS under the id 0.
 fn sets_for(
     alloc: Global,
     round: &[Picture<'_>],

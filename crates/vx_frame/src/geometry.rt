@@ -98,7 +98,9 @@ fn all_slices(alloc: Global, corners: &[Rect], pictures: &[Numbers]) -> Result<R
 
 // ---- the rules on sets
 
-/// Makes the regions and tile lines of the frame of a round, whose pictures have one subpicture each and CTUs of one size.
+/// Makes the regions and tile lines of the frame of a round.
+///
+/// The pictures of the round have one subpicture each and CTUs of one size.
 fn frame_regions(
     alloc: Global,
     corners: &[Corner],

@@ -34,7 +34,7 @@ use vx_sh::SliceHeader;
 
 // ---- the kind
 
-/// Returns whether two pictures have the same type and TemporalId, and both come after an end of sequence or neither does.
+/// Returns whether two pictures have the same type, TemporalId, and end of sequence before them or none.
 pub(crate) fn same_kind(a: &Picture<'_>, b: &Picture<'_>) -> bool
     ensures same { OnTrue result (rules.shared_kind a.now ≡ rules.shared_kind b.now) }
     ensures other { OnFalse result (rules.shared_kind a.now ≢ rules.shared_kind b.now) }

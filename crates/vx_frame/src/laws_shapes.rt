@@ -3,8 +3,9 @@ ghost use Rattle.vx_frame.specs.inner.Geometry.{FramesHaveShapes};
 
 use vx_fit::frame_of_regions;
 
-/// If a round's sets break no rule, then its frame is a layout and its sets can say what they are to say of it (H.266 7.4.3.4, 7.4.3.5,
-/// 6.3.1).
+/// If a round's sets make a frame, then it is a layout, and sets can describe it.
+///
+/// The clauses are H.266 7.4.3.4, 7.4.3.5 and 6.3.1.
 pub(crate) fn frames_have_shapes()
     ensures { FramesHaveShapes }
 {

@@ -24,7 +24,7 @@ use vx_pic::{Picture, differing_field, same_items};
 use vx_pps::{Pps, keep_pps};
 use vx_sps::{Sps, keep_sps};
 
-/// The fields of a profile that sources must share: profile, tier, and whether there are only frames and only one layer.
+/// The fields of a profile that sources must share: profile, tier, only frames, only one layer.
 const PROFILE: [u16; 4] = [
     general_profile_idc,
     general_tier_flag,

@@ -79,7 +79,7 @@ fn lowest_other_output(round: &[Picture<'_>]) -> Option<u16>
     None
 }
 
-/// Returns the refusal of slices that differ from the first one in what they say of the output of prior pictures.
+/// Returns the refusal of slices that differ from the first in their output of prior pictures.
 pub(crate) fn output_of_prior(round: &[Picture<'_>]) -> Option<Refusal>
     requires { (0 < length round.now) × (length round.now ≤ 64) }
     ensures { Finds (length round.now) (rules.output_of_prior round.now ∷ []) result }

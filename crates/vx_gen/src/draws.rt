@@ -1,23 +1,23 @@
-//! Bytes that are drawn from a seed.
+//! Bytes drawn from a seed.
 ghost use Rattle.std.specs.Prelude.{◌≡◌, ℕ, ◌+◌};
 ghost use Rattle.vx_gen.specs.Draws.{byte_of, next, payload, state};
 
 /// A generator of bytes.
 #[derive(Drop)]
 pub(crate) struct Draws {
-    /// What the last byte was made of, or the seed.
+    /// What the last byte was made from, or the seed.
     pub(crate) state: u32,
 }
 
 impl Draws {
-    /// From a seed.
+    /// Makes a generator from a seed.
     pub(crate) fn new(seed: u32) -> Draws
         ensures { result.state ≡ seed }
     {
         Draws { state: seed }
     }
 
-    /// The next byte, which is never 0.
+    /// Returns the next byte, which is never 0.
     #[tactic(auto, using(crate::proofs::Drawing::goes_on, crate::proofs::Drawing::gives))]
     fn byte(&mut self) -> u8
         ensures byte { result ≡ byte_of self.new.state }
@@ -31,7 +31,7 @@ impl Draws {
         1 + (high % 255) as u8
     }
 
-    /// The data of a slice: five bytes that are drawn, and 80, which ends the RBSP (H.266 7.3.2.14).
+    /// Returns the data of a slice: five drawn bytes, and 80, which ends the RBSP (H.266 7.3.2.14).
     pub(crate) fn payload(&mut self) -> [u8; 6]
         ensures bytes { (seed n : ℕ) → self.old.state ≡ state seed n → result ≡ payload seed n }
         ensures goes_on { (seed n : ℕ) → self.old.state ≡ state seed n → self.new.state ≡ state seed (n + 5) }

@@ -1,4 +1,4 @@
-//! Laws of generated streams: functions that do nothing, each with a law as its contract.
+//! Laws of generated streams. Each function does nothing and has its law as its contract.
 ghost use Rattle.vx_gen.specs.Laws.{GeneratedAreRead, PlannedAreShown};
 ghost use Rattle.vx_gen.specs.Merges.{GeneratedAreMerged};
 ghost use Rattle.vx_gen.specs.Rounds.{CornersAreThere, GeneratedAreNotBarred, GeneratedBreakNoRule, PlannedAreSoMany, PlannedMakeRounds};
@@ -11,7 +11,7 @@ use vx_sh::spelling_is_read;
 use vx_sps::reshaped_signals;
 use vx_write::{set_units_are_read, units_stand};
 
-/// Of a generated stream readers of H.266 read exactly the pictures that are told, and it ends well.
+/// If readers of H.266 read a generated stream, then they read exactly the defined pictures, and it ends well.
 pub fn generated_are_read()
     ensures { GeneratedAreRead }
 {
@@ -24,28 +24,28 @@ pub fn generated_are_read()
     units_stand();
 }
 
-/// What callers see of these pictures.
+/// States what callers see of the pictures of generated streams.
 pub fn planned_are_shown()
     ensures { PlannedAreShown }
 {}
 
-/// Side by side these pictures break no rule on merges.
+/// If generated pictures are placed side by side, then they break no rule on merges.
 pub fn generated_break_no_rule()
     ensures { GeneratedBreakNoRule }
 {}
 
-/// The corners at which they stand can be those of a merge.
+/// If streams are generated, then their corners can be those of a merge.
 pub fn corners_are_there()
     ensures { CornersAreThere }
 {}
 
-/// These pictures make the rounds of a merge.
+/// If streams are generated, then their pictures make the rounds of a merge.
 pub fn planned_make_rounds()
     ensures count { PlannedAreSoMany }
     ensures rounds { PlannedMakeRounds }
 {}
 
-/// Nor do they break a limit: a merge of them is never barred.
+/// If generated streams are merged, then no round breaks a rule or a limit.
 pub fn generated_are_not_barred()
     ensures { GeneratedAreNotBarred }
 {
@@ -59,7 +59,9 @@ pub fn generated_are_not_barred()
     vx_sh::spelling_is_short();
 }
 
-/// Where all rounds are written, the bytes are read again as the merge of the streams, and each of its regions can be extracted.
+/// If all rounds of generated streams are written, then the bytes are read again as their merge.
+///
+/// Each of its regions can be extracted.
 pub fn generated_are_merged()
     ensures { GeneratedAreMerged }
 {

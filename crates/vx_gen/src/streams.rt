@@ -11,7 +11,7 @@ use crate::units::{PPS_END_SIZES, PPS_ENDS, PPS_FRONT, SPS, START_CODE, slice_fr
 use std::alloc::{AllocError, Global};
 use vx_bits::{ByteLists, Bytes};
 
-/// Appends the unit of the SPS, and that of source `k`'s PPS.
+/// Appends the units of the SPS and of source `k`'s PPS.
 fn push_sets(stream: &mut Bytes, k: u32) -> Result<(), AllocError>
     requires { k < 16 }
     ensures { OnOk result (stream.new ≡ stream.old ++ written (units.sps ∷ units.pps k ∷ [])) }
@@ -35,7 +35,7 @@ fn push_picture(stream: &mut Bytes, draws: &mut Draws, p: u32) -> Result<(), All
     stream.extend_from_slice(&draws.payload())
 }
 
-/// Source `k`'s stream, of so many pictures.
+/// Makes source `k`'s stream of `pictures` pictures.
 fn stream(alloc: Global, draws: &mut Draws, k: u32, pictures: u32) -> Result<Bytes, AllocError>
     requires { k < 16 }
     ensures bytes { (seed n : ℕ) → draws.old.state ≡ state seed n
@@ -51,7 +51,9 @@ fn stream(alloc: Global, draws: &mut Draws, k: u32, pictures: u32) -> Result<Byt
     Ok(stream)
 }
 
-/// The streams of so many sources, each of so many pictures, from a seed.
+/// Makes the streams of `sources` sources, at most 16, with `pictures` pictures each, from a seed.
+///
+/// The bytes are defined in `specs`, `Streams`. *Errors:* [`AllocError`] if memory runs out.
 pub fn generate(
     alloc: Global,
     seed: u32,

@@ -1,4 +1,4 @@
-//! The units of generated streams, byte by byte: what they say is a law.
+//! The units of generated streams, byte by byte. Laws say what they mean.
 ghost use Rattle.std.specs.Prelude.{◌≡◌, ◌<◌};
 ghost use Rattle.vx_gen.specs.Units as units;
 
@@ -11,10 +11,12 @@ pub(crate) const SPS: [u8; 21] = [
     0x30, 0x06, 0x08, 0x00, 0x10,
 ];
 
-/// A PPS up to the byte in which pps_init_qp_minus26 begins: pictures of 128 × 128 that aren't partitioned (H.266 7.3.2.5).
+/// The beginning of a PPS, up to the byte in which pps_init_qp_minus26 begins (H.266 7.3.2.5).
+///
+/// The pictures have 128 × 128 samples and aren't partitioned.
 pub(crate) const PPS_FRONT: [u8; 8] = [0x00, 0x81, 0x00, 0x00, 0x20, 0x40, 0x40, 0x89];
 
-/// The rest, where pps_init_qp_minus26 is 0, −1 and so on.
+/// The rest of a PPS, for a pps_init_qp_minus26 of 0, −1 and so on.
 pub(crate) const PPS_ENDS: [[u8; 3]; 16] = [
     [0x84, 0x08, 0x00],
     [0x83, 0x02, 0x00],
@@ -34,14 +36,15 @@ pub(crate) const PPS_ENDS: [[u8; 3]; 16] = [
     [0x80, 0x7C, 0x08],
 ];
 
-/// The first two take a byte less.
+/// The lengths of these. The first two take a byte less.
 pub(crate) const PPS_END_SIZES: [usize; 16] = [2, 2, 3, 3, 3, 3, 3, 3, 3, 3, 3, 3, 3, 3, 3, 3];
 
 /// The slice of an IDR picture up to its data, with the picture header inside (H.266 7.3.7, 7.3.2.8).
 const IDR_SLICE: [u8; 4] = [0x00, 0x41, 0xC4, 0x18];
 
-/// The slice of picture `p` up to its data. Behind the first picture it tells the low four bits of the picture's number, and has two
-/// empty reference picture lists.
+/// Returns the slice of picture `p` up to its data.
+///
+/// After the first picture it has the low four bits of the picture's number, and two empty reference picture lists.
 #[tactic(auto, using(crate::proofs::Making::trailing_front))]
 pub(crate) fn slice_front(p: u32) -> [u8; 4]
     ensures { result ≡ units.slice_front p }

@@ -135,7 +135,7 @@ fn lowest_free(search: Search, held: &[Option<u8>], ids: &[u8]) -> u8
     id
 }
 
-/// Returns the id of a body that isn't resident: the lowest open one, or if there is none the lowest that isn't taken.
+/// Returns the id of a body that isn't resident: the lowest open one, otherwise the lowest that isn't taken.
 fn new_id(slots: &Slots, search: Search, held: &[Option<u8>], ids: &[u8]) -> u8
     requires few { length held.now ≤ search.count }
     requires room { taking.HasRoom held.now ids.now }

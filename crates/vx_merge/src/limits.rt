@@ -1,4 +1,4 @@
-//! The limits of what is to be written, from lengths only: of a unit, of a picture, and of the stream.
+//! The limits of a unit, of a picture and of the stream that are to be written, from lengths only.
 ghost use Rattle.std.specs.Prelude.{◌≡◌, ◌+◌, ◌++◌, length, map, option_copied, option_to_list, IfOk, IfErr, OnOk, Some, None};
 ghost use Rattle.std.specs.List.{AllByRecursion, list_any};
 ghost use Rattle.vx_pic.specs.Written.{eos_units};

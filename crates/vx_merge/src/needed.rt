@@ -272,7 +272,9 @@ pub(crate) fn taken_pps_id(slots: &Slots, temporal_id: u8, pps: &Pps) -> u8
 
 // ---- all
 
-/// Returns the sets that a round with these bodies needs, with the ids that they take after the sets that were sent.
+/// Returns the sets that a round with these bodies needs, with the ids that they take.
+///
+/// The ids depend on the sets that were sent.
 pub(crate) fn needed<'s, 'a>(
     alloc: Global,
     round: &[Picture<'a>],

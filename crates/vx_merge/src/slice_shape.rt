@@ -128,7 +128,9 @@ fn renamed_filter(
     Ok(made)
 }
 
-/// Returns the filter in force for a slice, the picture header's or its own, with the new ids of its bodies.
+/// Returns the filter in force for a slice, with the new ids of its bodies.
+///
+/// The filter is the picture header's or the slice's own.
 pub(crate) fn filter_in(
     alloc: Global,
     named: &NamedBodies<'_>,

@@ -1,12 +1,13 @@
-//! Which file of each region is read.
+//! The schedule of files: which file of each region is read.
 ghost use Rattle.std.specs.Prelude.{◌≡◌, ◌<◌, ◌^◌, length, slice_get};
 ghost use Rattle.vx_play.specs.Scheduled as words;
 
 use std::alloc::{AllocError, Global};
 use std::marker::Model;
 
-/// Which file of each region is read. Regions and files are numbered from 0, and the files of a region are read in the order of their
-/// numbers.
+/// Keeps track of which file of each region is read.
+///
+/// Regions and files are numbered from 0. The files of a region are read in the order of their numbers.
 #[derive(Drop)]
 pub struct Schedule {
     regions: Vec<u32>,
@@ -26,7 +27,7 @@ impl Model for Schedule {
     ghost invariant = { λ s. (length s.regions.items < 2 ^ 32) × (length s.last.items ≡ length s.gone.items) };
 }
 
-/// How many regions there are, where these are those of the files: one more than the highest.
+/// Returns how many regions these files have: one more than the highest.
 fn region_count(regions: &[u32]) -> usize
     ensures { result ≡ words.regions_counted regions.now }
 {
@@ -37,7 +38,7 @@ fn region_count(regions: &[u32]) -> usize
     count
 }
 
-/// The file of a region behind so many others of it.
+/// Returns the file of a region that comes after `gone` others of it.
 fn file_behind(regions: &[u32], region: u32, gone: u32) -> Option<u32>
     requires { length regions.now < 2 ^ 32 }
     ensures { result ≡ slice_get (words.files_of_region regions.now region) gone }
@@ -59,7 +60,9 @@ impl Schedule {
     ghost use Rattle.std.specs.Bool.{OnTrue, OnFalse};
     ghost use Rattle.vx_play.specs.Scheduled as words;
 
-    /// A schedule of as many files as entries, each entry being the region of a file. No file has ended.
+    /// Makes a schedule of files that haven't ended. `regions` has the region of each file.
+    ///
+    /// *Errors:* [`AllocError`] if memory runs out.
     pub fn new(alloc: Global, regions: &[u32]) -> Result<Schedule, AllocError>
         requires { length regions.now < 2 ^ 32 }
         ensures { IfOk result (λ s. s ≡ record { regions = regions.now; gone = replicate (words.regions_counted regions.now) 0; last = None }) }
@@ -75,7 +78,7 @@ impl Schedule {
         })
     }
 
-    /// The file of a region that is read: the first one that hasn't ended. None where all have.
+    /// Returns the file of a region that is read: the first that hasn't ended, or `None` if all have.
     pub fn current(&self, region: u32) -> Option<u32>
         requires { region < length self.now.gone }
         ensures { result ≡ words.file_being_read self.now region }
@@ -83,7 +86,7 @@ impl Schedule {
         file_behind(&self.regions, region, self.gone[region as usize])
     }
 
-    /// The file of a region that is read has ended, so its next one is read from now on.
+    /// Marks the current file of a region as ended; its next file is read from then on.
     pub fn ended(&mut self, region: u32)
         requires region { region < length self.old.gone }
         requires file { IsSome (words.file_being_read self.old region) }
@@ -92,8 +95,10 @@ impl Schedule {
         self.gone[region as usize] += 1;
     }
 
-    /// Whether another file is read of some region than at the last call, where there was one. It is asked once in a round, when each
-    /// region's picture came.
+    /// Returns whether another file of some region is read than at the last call. The first call returns `false`.
+    ///
+    /// Call it once for each round, when each region has its picture. That it reports exactly the rounds that are joined is proved in
+    /// `vx_run`.
     pub fn is_join(&mut self) -> bool
         ensures join { OnTrue result (words.HasMoved self.old) }
         ensures same { OnFalse result (words.HasStayed self.old) }

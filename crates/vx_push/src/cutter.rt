@@ -27,10 +27,10 @@ pub enum Cut {
     Stopped(Stop),
 }
 
-/// Extracts a subpicture of a byte stream that is pushed as it arrives, and holds at most one picture of it until it is taken.
+/// Extracts a subpicture of a byte stream that is pushed as it arrives.
 ///
-/// It writes what `extract` writes of the same stream. After the end, a refusal or lack of memory [`next`](Cutter::next) returns that
-/// again.
+/// It holds at most one picture of output, until that is taken. It writes what `extract` writes of the same stream. After the end, a
+/// refusal or lack of memory [`next`](Cutter::next) returns that again.
 #[derive(Drop)]
 pub struct Cutter {
     alloc: Global,

@@ -71,7 +71,7 @@ impl Intake {
         })
     }
 
-    /// Returns where it stands.
+    /// Returns its state.
     pub fn state(&self) -> State
         ensures state { result ≡ self.now.state }
         ensures told { (R : Readers) (h : Handed) (ps : List StreamPicture) → HasCome R self.now h ps → ComesTo R h ps result }

@@ -36,10 +36,10 @@ pub enum Mixed {
 #[derive(Clone, Copy, Debug, PartialEq, Eq)]
 pub struct NoSource;
 
-/// Merges byte streams that are pushed as they arrive, and holds at most one merged picture until it is taken.
+/// Merges byte streams that are pushed as they arrive.
 ///
-/// It merges what `merge` merges of the same streams, by the law [`mixed_is_merged`]. After the end, a refusal or lack of memory
-/// [`next`](Mixer::next) returns that again.
+/// It holds at most one merged picture, until that is taken. It merges what `merge` merges of the same streams, by the law
+/// [`mixed_is_merged`]. After the end, a refusal or lack of memory [`next`](Mixer::next) returns that again.
 #[derive(Drop)]
 pub struct Mixer {
     alloc: Global,
@@ -339,7 +339,7 @@ impl Mixer {
     }
 }
 
-/// If a mixer came to the end of a merge, then `merge` of the same streams ends alike after the same rounds.
+/// If a mixer came to the end of a merge, then `merge` ends alike after the same rounds.
 ///
 /// It holds however the streams were pushed. A mixer that stopped for lack of memory isn't at the end.
 pub fn mixed_is_merged()

@@ -120,7 +120,7 @@ pub(crate) fn give_end(feed: &mut Feed) -> State
     seek(feed)
 }
 
-/// Advances past a picture: in the bytes read, and if these are used up, through the zeros and the end that were declared after it.
+/// Advances past a picture: in the bytes read, then through the zeros and the end declared after it.
 pub(crate) fn go_on(feed: &mut Feed, flushed: &mut bool, ended: bool) -> State
     ensures comes { (R : Readers) → AreOfH266 R → (h : Handed) (ps : List StreamPicture) → IsGoing R (intaking feed.old Holds flushed.old ended) h ps
         → StepsBehind R (intaking feed.new result flushed.new ended) h ps result }

@@ -8,7 +8,7 @@ use vx_pic::Kind;
 /// A picture of output: its number, its length and its kind.
 #[derive(Clone, Copy, Debug, PartialEq, Eq)]
 pub struct WrittenPicture {
-    /// Its number, from 0: among the rounds of a merge, or among all pictures of an extraction's source, kept or not.
+    /// Its number, from 0, among the rounds of a merge or the pictures of a cutter's source, kept or not.
     pub number: u64,
     /// How many bytes it has.
     pub bytes: usize,

@@ -135,7 +135,7 @@ fn put_number(lines: &mut Vec<u8>, before: &[u8], number: u64) -> Result<(), All
     lines.extend_from_slice(buffer.format(number).as_bytes())
 }
 
-/// Returns the word for a structure.
+/// Returns the name of a structure.
 fn word_of(structure: Structure) -> &'static str
     ensures { result.now ≡ line.structure_word structure }
 {

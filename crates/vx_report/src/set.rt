@@ -27,8 +27,9 @@ pub enum SetNumbers {
         layers: u64,
         sublayers: u64,
     },
-    /// A sequence parameter set: sps_seq_parameter_set_id, the maximum size of a picture and the size of a CTU in luma samples, and the
-    /// number of subpictures.
+    /// A sequence parameter set: its id, maximum picture size, CTU size and number of subpictures.
+    ///
+    /// The id is sps_seq_parameter_set_id; sizes are in luma samples.
     Sps {
         id: u32,
         width: u32,
@@ -36,8 +37,9 @@ pub enum SetNumbers {
         ctu: u32,
         subpictures: u32,
     },
-    /// A picture parameter set: pps_pic_parameter_set_id, the id of its SPS, its numbers of tile columns and tile rows, and its number of
-    /// slices, or 0 if each subpicture is one.
+    /// A picture parameter set: its id, its SPS's id, and its numbers of tile columns, tile rows and slices.
+    ///
+    /// The id is pps_pic_parameter_set_id. The number of slices is 0 if each subpicture is one.
     Pps {
         id: u32,
         sps: u32,

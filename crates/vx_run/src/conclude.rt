@@ -65,7 +65,7 @@ pub fn finish<W: Write + Drop, E: Sink>(
     }
 }
 
-/// Writes a line that was made, and returns `status`; or the line and status of lack of memory if making it failed.
+/// Writes a line that was made, and returns `status`. If there was no memory for the line, reports that instead.
 fn end<E: Sink>(err: &mut E, line: Result<Vec<u8>, AllocError>, status: u8) -> u8
     ensures made { IfOk line (λ made.
         (result ≡ status) × Tells (change E.bytes_taken E.write_faults err.old err.new) made.items) }

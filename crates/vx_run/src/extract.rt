@@ -107,7 +107,7 @@ fn extractions_read_again()
     extraction_reads_again();
 }
 
-/// If units are read by readers of H.266, then each picture of theirs has a slice of each of its subpictures.
+/// If readers of H.266 read units, then each picture has a slice of each of its subpictures.
 pub fn pictures_have_slices()
     ensures { (R : Readers) → AreOfH266 R → HaveSlices R }
 {

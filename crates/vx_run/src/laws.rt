@@ -10,30 +10,31 @@ pub fn status_2_is_exact<A, K, E>()
     ensures { Status2IsExact A K E }
 {}
 
-/// If no read and no write failed and the status isn't 4, then the status is 0 if and only if the command can be done, and 1 otherwise.
+/// Without faults and lack of memory, the status is 0 if the command can be done, and 1 otherwise.
 ///
-/// It holds for arguments that are understood and that place no more files or regions than there may be, and for sources whose bytes the
-/// contracts know. "Can be done" is what `HasStatus` says for each command.
+/// More exactly: if no read and no write failed and the status isn't 4, then it is 0 if and only if the command can be done. The law is
+/// about arguments that are understood and place no more files or regions than there may be, and about sources whose bytes the contracts
+/// know. "Can be done" is what `HasStatus` says for each command.
 pub fn status_is_exact<A, K, E>()
     ensures { StatusIsExact A K E }
 {}
 
-/// If more files or regions are placed than there may be, and the status isn't 4, then the status is 1.
+/// If more files or regions are placed than there may be, then the status is 1, or 4.
 pub fn too_many_are_refused<A, K, E>()
     ensures { TooManyAreRefused A K E }
 {}
 
-/// If a merge of the same streams ends in two ways, then both wrote the same rounds and have the same outcome.
+/// If a merge of streams ends in two ways, then both have the same rounds and the same outcome.
 pub fn merge_ends_once()
     ensures { EndsOnce }
 {}
 
-/// If playing the same files ends in two ways, then both wrote the same rounds and have the same outcome.
+/// If playing files ends in two ways, then both have the same rounds and the same outcome.
 pub fn play_ends_once()
     ensures { PlayEndsOnce }
 {}
 
-/// If verifying the same streams ends in two ways, then both verified equally many rounds and have the same outcome.
+/// If verifying streams ends in two ways, then both have equally many rounds and the same outcome.
 pub fn verify_ends_once()
     ensures { VerifyEndsOnce }
 {}

@@ -3,7 +3,7 @@
 //! - [`run`] runs the command that the arguments ask for, writes a line on `err` if it isn't done, and returns the exit status.
 //!   [`run_whole`] also writes what the output buffer, a [`GatherSink`], holds at the end.
 //! - [`file_count`] and [`file_word`] return the files that the arguments name, so that the caller can open one source for each.
-//! - [`Stop`] is the reason why a command ends early, and [`Place`] where it broke a rule.
+//! - [`Stop`] is the reason why a command ends early, and [`Place`] the place of a broken rule.
 //! - Laws: [`status_is_exact`], [`status_2_is_exact`] and [`too_many_are_refused`] relate the status to the sources. [`merge_ends_once`],
 //!   [`play_ends_once`] and [`verify_ends_once`] relate the ends that these commands can have.
 //!

@@ -348,9 +348,10 @@ fn write_round<K: Sink>(
     merger.round(feeds, out)
 }
 
-/// Returns the region of file `k` of a `play` command, from 0; `None` if the arguments are others or place no such file.
+/// Returns the region of file `k` of a `play` command, from 0.
 ///
-/// Files with equal corners are in one region. Regions are numbered in the order in which they first appear.
+/// Returns `None` if the arguments are others, or place no such file. Files with equal corners are in one region. Regions are numbered in
+/// the order in which they first appear.
 pub fn play_region(words: &[String], k: usize) -> Option<usize>
     ensures region { (level : OptionOf ℕ) (placings : List PlacingAsked) → AskFor (texts words.now) (for_play level placings)
         → result ≡ slice_get (file_regions placings) k }

@@ -19,11 +19,12 @@ use crate::words::{Command, command_of};
 use std::alloc::Global;
 use vx_io::{Sink, Source};
 
-/// Runs the command that the arguments ask for, over one source for each file that they name, and returns the exit status.
+/// Runs the command that the arguments ask for, and returns the exit status.
 ///
-/// Writes to `out` what the command makes, and to `err` one line if it isn't done. The status is 0 for done, 1 for a broken rule, 2 for
-/// arguments that are not understood, 3 for a failed read or write, 4 for lack of memory. `words` are the arguments without the program's
-/// name. [`status_is_exact`](crate::status_is_exact) and the laws beside it say, command by command, which status comes when.
+/// There is one source for each file that the arguments name, in order; `words` are the arguments without the program's name. Writes to
+/// `out` what the command makes, and to `err` one line if it isn't done. The status is 0 for done, 1 for a broken rule, 2 for arguments
+/// that are not understood, 3 for a failed read or write, 4 for lack of memory. [`status_is_exact`](crate::status_is_exact) and the laws
+/// beside it say, command by command, which status comes when.
 pub fn run<K: Sink, E: Sink>(
     alloc: Global,
     words: &[String],

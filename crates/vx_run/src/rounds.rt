@@ -49,7 +49,7 @@ pub(crate) fn feeds_for(alloc: Global, count: usize) -> Result<Vec<Feed>, AllocE
     Ok(feeds)
 }
 
-/// Makes the marks of `count` sources, of which none has ended.
+/// Makes the marks of `count` sources, none of them ended.
 pub(crate) fn going(alloc: Global, count: usize) -> Result<Vec<bool>, AllocError>
     ensures { IfOk result (λ ended. vec_len ended ≡ count) }
 {

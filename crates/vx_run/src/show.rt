@@ -1,4 +1,4 @@
-//! `show [--fields] FILE`: lines for the NAL units, sets and pictures of a byte stream, and for the fields of sets and headers.
+//! `show [--fields] FILE`: lines for the units, sets, pictures and fields of a byte stream.
 
 ghost use Rattle.std.specs.Prelude.{◌≡◌, ◌+◌, ◌<◌, ◌++◌, ◌∷◌, [], List, ℕ, length, Some, None, Ok, Err, IfOk, IfErr, MatchOption, OnOk, OnErr, OnSome};
 ghost use Rattle.vx_annexb.specs.ByteStream.{UnitPlace};

@@ -22,7 +22,7 @@ use vx_io::{Sink, Source, write_all};
 use vx_merge::{Lengths, lengths};
 use vx_verify::{Mismatch, Spot, Verifier, VerifyError};
 
-/// Runs `verify merge`: writes how many rounds there are, if file 0 is the merge of the others, each at its place.
+/// Runs `verify merge`: writes how many rounds there are, if file 0 is the merge of the others at their places.
 pub(crate) fn verify<K: Sink>(
     alloc: Global,
     placings: Placings<'_>,

@@ -14,7 +14,9 @@ use std::alloc::Global;
 use std::io::Write;
 use vx_io::{Sink, Source};
 
-/// Runs a command as [`run`] does, writes what `out` still holds at its end, and returns the exit status of both.
+/// Runs a command as [`run`] does, and writes what `out` still holds at its end.
+///
+/// Returns the exit status of both.
 pub fn run_whole<W: Write + Drop, E: Sink>(
     alloc: Global,
     words: &[String],

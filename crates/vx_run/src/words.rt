@@ -306,9 +306,9 @@ fn behind<'a>(words: &'a [String], name: &str) -> Option<&'a [String]>
     Some(&words[1..])
 }
 
-/// Parses an option `name N` if it comes first, with `N` at most `most`, and returns its number and the arguments after it.
+/// Parses an option `name N` if it comes first, and returns its number and the arguments after it.
 ///
-/// `None` if the option comes first without such a number.
+/// `N` is at most `most`. Returns `None` if the option comes first without such a number.
 fn option<'a>(words: &'a [String], name: &str, most: u8) -> Option<(Option<u8>, &'a [String])>
     ensures { MatchOption result
         ((n : OptionOf ℕ) (rest : List (List ℕ)) → IsOptionFirst name.now most (texts words.now) n rest → ⊥)

@@ -11,7 +11,7 @@ use std::alloc::{AllocError, Global};
 use vx_assemble::MemoryFeed;
 use vx_bits::Bytes;
 
-/// A feed over each stream.
+/// Makes a feed over each stream.
 pub(crate) fn feeds_over(alloc: Global, streams: &[Bytes]) -> Result<Vec<MemoryFeed>, AllocError>
     ensures { IfOk result (λ feeds. AllZip IsUnfed feeds.items streams.now) }
 {
@@ -23,7 +23,7 @@ pub(crate) fn feeds_over(alloc: Global, streams: &[Bytes]) -> Result<Vec<MemoryF
     Ok(feeds)
 }
 
-/// Comes to the next picture of each stream, of which there is one more.
+/// Advances each stream to its next picture. There is one more.
 pub(crate) fn next_pictures(feeds: &mut Vec<MemoryFeed>) -> Result<(), AllocError>
     requires { (R : Readers) → AreOfH266 R → AllWait R feeds.old.items }
     ensures { (R : Readers) → AreOfH266 R → (m : ℕ) (sources : List (List Picture))
@@ -35,7 +35,7 @@ pub(crate) fn next_pictures(feeds: &mut Vec<MemoryFeed>) -> Result<(), AllocErro
     Ok(())
 }
 
-/// Comes to the next picture of a stream, of which there is one more.
+/// Advances a stream to its next picture. There is one more.
 pub(crate) fn next_picture(feed: &mut MemoryFeed) -> Result<(), AllocError>
     requires { (R : Readers) → AreOfH266 R → (m : ℕ) × (ps : List Picture) × Waits R (suc m) feed.old ps }
     ensures { (R : Readers) → AreOfH266 R → (m : ℕ) (ps : List Picture) → Waits R (suc m) feed.old ps

@@ -18,7 +18,7 @@ use vx_bits::Bytes;
 use vx_io::GrowSink;
 use vx_merge::{Corner, Merger};
 
-/// The merge of streams, of so many pictures each, in regions with these corners.
+/// Merges streams of `pictures` pictures each, in regions with these corners.
 pub(crate) fn merge(
     alloc: Global,
     streams: &[Bytes],
@@ -37,7 +37,7 @@ pub(crate) fn merge(
     Ok(merged)
 }
 
-/// Writes so many rounds.
+/// Writes the next `pictures` rounds.
 fn write_rounds(
     merger: &mut Merger,
     feeds: &mut Vec<MemoryFeed>,
@@ -55,7 +55,7 @@ fn write_rounds(
     Ok(())
 }
 
-/// Writes the next round, of which there is one more.
+/// Writes the next round. There is one more.
 fn write_next(
     merger: &mut Merger,
     feeds: &mut Vec<MemoryFeed>,

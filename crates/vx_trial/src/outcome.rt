@@ -1,4 +1,4 @@
-//! What comes of streams and pictures that break no rule: nothing but memory may be wanting.
+//! Results for streams and pictures that break no rule: only memory can be lacking.
 ghost use Rattle.std.specs.Prelude.{◌≡◌, Ok, OnOk};
 ghost use Rattle.vx_assemble.specs.declared.feed.Step.TheVariants as steps;
 ghost use Rattle.vx_trial.specs.inner.Feeds.{IsToPicture, IsUnbarred};
@@ -7,7 +7,7 @@ use std::alloc::AllocError;
 use vx_assemble::{AssembleFault, Step};
 use vx_write::WriteError;
 
-/// A feed comes to a picture, where there is one.
+/// Returns the result of a feed that has another picture.
 pub(crate) fn to_picture(step: Result<Step, AssembleFault>) -> Result<(), AllocError>
     requires { IsToPicture step }
     ensures { OnOk result (step ≡ Ok steps.Picture) }
@@ -20,7 +20,7 @@ pub(crate) fn to_picture(step: Result<Step, AssembleFault>) -> Result<(), AllocE
     }
 }
 
-/// A picture that breaks no rule is written to memory.
+/// Returns the result of writing a picture that breaks no rule to memory.
 pub(crate) fn to_memory(written: Result<(), WriteError>) -> Result<(), AllocError>
     requires { IsUnbarred written }
     ensures { OnOk result (written ≡ Ok tt) }

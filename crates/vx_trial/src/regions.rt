@@ -1,4 +1,4 @@
-//! Regions of a merge in memory, extracted.
+//! The regions of a merge in memory, extracted.
 ghost use Rattle.std.specs.Prelude.{◌≡◌, ℕ, suc, List, [], None, map, IfOk, OnOk};
 ghost use Rattle.vx_pic.specs.H266.{AreOfH266};
 ghost use Rattle.vx_pic.specs.Parts.{parts_of};
@@ -18,7 +18,7 @@ use vx_extract::Extractor;
 use vx_io::GrowSink;
 use vx_pic::Picture;
 
-/// Region `k` of a stream of so many pictures.
+/// Extracts region `k` of a stream of `pictures` pictures.
 pub(crate) fn extract(
     alloc: Global,
     k: u32,
@@ -33,7 +33,7 @@ pub(crate) fn extract(
     extract_fed(alloc, k, &mut feed, pictures)
 }
 
-/// Region `k` of a stream of so many pictures, of which none was taken.
+/// Extracts region `k` through a feed that has taken nothing.
 fn extract_fed(
     alloc: Global,
     k: u32,
@@ -48,7 +48,7 @@ fn extract_fed(
     extract_pictures(alloc, feed, &mut extractor, pictures)
 }
 
-/// The region of so many pictures.
+/// Extracts the region of the next `pictures` pictures.
 fn extract_pictures(
     alloc: Global,
     feed: &mut MemoryFeed,
@@ -67,7 +67,7 @@ fn extract_pictures(
     Ok(region)
 }
 
-/// Writes the region of the next picture, of which there is one more.
+/// Writes the region of the next picture. There is one more.
 fn extract_next(
     feed: &mut MemoryFeed,
     extractor: &mut Extractor,

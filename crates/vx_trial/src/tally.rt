@@ -1,4 +1,4 @@
-//! What is counted of a trial.
+//! The counts of a trial.
 ghost use Rattle.std.specs.Prelude.{◌≡◌, ◌++◌, ◌≤◌, List, ℕ, None, map, IfOk};
 ghost use Rattle.std.specs.List.{AllZip, concat, range_with_len};
 ghost use Rattle.vx_pic.specs.H266.{AreOfH266};
@@ -22,21 +22,25 @@ use vx_gen::generate;
 use vx_io::GrowSink;
 use vx_merge::Corner;
 
-/// What is counted of a trial.
+/// The counts of a trial.
 #[derive(Clone, Copy, Debug, PartialEq, Eq)]
 pub struct Tally {
-    /// The pictures of each stream.
+    /// The number of pictures of each stream.
     pub pictures: u32,
-    /// The slices of all streams.
+    /// The number of slices of all streams.
     pub slices: u32,
-    /// The bytes of the merge.
+    /// The number of bytes of the merge.
     pub bytes: u64,
-    /// The weight of the merge with all that is extracted of it behind: the sum of each byte times its place, where places are counted
-    /// from 1, modulo 2^32.
+    /// The weight of the merge followed by all that is extracted from it.
+    ///
+    /// It is the sum of each byte times its place, counted from 1, modulo 2^32.
     pub weight: u32,
 }
 
-/// Makes so many streams from a number, of so many pictures each, merges them side by side, extracts each region of the merge, and counts.
+/// Makes streams from a number, merges them side by side, extracts each region of the merge, and counts.
+///
+/// There are `sources` streams of `pictures` pictures each, made from `seed`. *Errors:* [`AllocError`]: only lack of memory ends a trial
+/// early.
 pub fn trial(alloc: Global, seed: u32, sources: u32, pictures: u32) -> Result<Tally, AllocError>
     requires sources { (1 ≤ sources) × (sources ≤ 16) }
     requires pictures { (1 ≤ pictures) × (pictures ≤ 1000) }
@@ -54,7 +58,7 @@ pub fn trial(alloc: Global, seed: u32, sources: u32, pictures: u32) -> Result<Ta
     })
 }
 
-/// The merge of so many streams that are made from a number, side by side.
+/// Merges streams that are generated from a number, side by side.
 fn merge_generated(
     alloc: Global,
     seed: u32,
@@ -72,7 +76,7 @@ fn merge_generated(
     merge(alloc, streams.as_slice(), &corners, pictures)
 }
 
-/// The corners of so many regions side by side.
+/// Returns the corners of `sources` regions side by side.
 fn side_by_side(alloc: Global, sources: u32) -> Result<Vec<Corner>, AllocError>
     requires { sources ≤ 16 }
     ensures { IfOk result (λ corners. corners.items ≡ corners_of sources) }
@@ -84,7 +88,7 @@ fn side_by_side(alloc: Global, sources: u32) -> Result<Vec<Corner>, AllocError>
     Ok(corners)
 }
 
-/// The weight of a merge with all that is extracted of its regions, so many, behind.
+/// Returns the weight of a merge followed by what is extracted of its regions.
 fn weigh(alloc: Global, merged: &[u8], sources: u32, pictures: u32) -> Result<u32, AllocError>
     requires { (R : Readers) → AreOfH266 R → (ps : List Picture) × AllCanBeExtracted R sources pictures merged.now ps }
     ensures { (R : Readers) → AreOfH266 R → (ps : List Picture) → AllCanBeExtracted R sources pictures merged.now ps

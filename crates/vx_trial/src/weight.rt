@@ -3,7 +3,9 @@ ghost use Rattle.std.specs.Prelude.{◌≡◌, ◌++◌, List, ℕ, []};
 ghost use Rattle.vx_trial.specs.Trial as words;
 ghost use Rattle.vx_trial.specs.inner.Weighing.{Weighs};
 
-/// The weight of bytes that come in pieces: the sum of each times its place in all, where places are counted from 1, modulo 2^32.
+/// The weight of bytes that come in pieces.
+///
+/// It is the sum of each byte times its place, counted from 1, modulo 2^32.
 #[derive(Clone, Copy, Debug, PartialEq, Eq)]
 pub(crate) struct Weight {
     /// The place of the next byte.
@@ -16,14 +18,14 @@ impl Weight {
     ghost use Rattle.vx_trial.specs.Trial as words;
     ghost use Rattle.vx_trial.specs.inner.Weighing.{Weighs};
 
-    /// Of no bytes.
+    /// Returns the weight of no bytes.
     pub(crate) fn new() -> Weight
         ensures { Weighs [] result }
     {
         Weight { place: 1, sum: 0 }
     }
 
-    /// Adds bytes behind those before.
+    /// Adds bytes after the earlier ones.
     pub(crate) fn add(&mut self, bytes: &[u8])
         ensures { (before : List ℕ) → Weighs before self.old → Weighs (before ++ bytes.now) self.new }
     {
@@ -35,7 +37,7 @@ impl Weight {
         }
     }
 
-    /// The weight of all of them.
+    /// Returns the weight of all bytes.
     pub(crate) fn of_all(self) -> u32
         ensures { (bytes : List ℕ) → Weighs bytes self → result ≡ words.weight bytes }
     {

@@ -10,7 +10,7 @@ use vx_pic::Difference;
 /// The first difference, with the number of its file: 0 is the finished stream, the sources are numbered from 1.
 #[derive(Clone, Copy, Debug, PartialEq, Eq)]
 pub enum Mismatch {
-    /// C1: the finished picture (file 0) has another number of subpictures than there are sources, or this source's picture has several.
+    /// C1: the finished picture (file 0) hasn't one subpicture for each source, or this source's picture has several.
     Count(u16),
     /// C2: the subpicture of this source isn't at its place.
     Rect(u16),

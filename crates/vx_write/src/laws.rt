@@ -4,7 +4,7 @@ ghost use Rattle.vx_write.specs.Again.{EndStands, SeiUnitsAreRead, SetUnitsAreRe
 use vx_aps::spelled_is_aps;
 use vx_pic::readers_are_unique;
 
-/// If the unit of a set or of messages is written, then readers of H.266 read it as that set or these messages.
+/// If the unit of a set or of messages is written, then readers of H.266 read these.
 pub fn set_units_are_read()
     ensures sets { SetUnitsAreRead }
     ensures messages { SeiUnitsAreRead }
@@ -16,7 +16,9 @@ pub fn set_units_are_read()
     readers_are_unique();
 }
 
-/// If a unit isn't longer than a unit may be, then it can stand in a byte stream, and so can an end of sequence (H.266 Annex B).
+/// If a unit isn't too long, then it can stand in a byte stream; an end of sequence can too.
+///
+/// The clause is H.266 Annex B.
 pub fn units_stand()
     ensures units { UnitsStand }
     ensures end { EndStands }

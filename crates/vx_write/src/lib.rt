@@ -1,8 +1,9 @@
-//! Makes units of parameter sets and messages, tracks the sets that a receiver has, and writes units (H.266 7.4.2, Annex B).
+//! Makes units of parameter sets and messages, tracks the sets that a receiver has, and writes units.
 //!
-//! Extraction and merging share this crate.
+//! Extraction and merging share this crate (H.266 7.4.2, Annex B).
 //!
-//! - [`sps_unit`], [`pps_unit`], [`aps_unit`] and [`sei_unit`] make units. [`sets_in_force`] returns the SPS and PPS to rewrite.
+//! - [`sps_unit`], [`pps_unit`], [`aps_unit`] and [`sei_unit`] make units. [`sets_in_force`] states what is known of the SPS and PPS that
+//!   are rewritten.
 //! - [`Slots`] holds the last set that was sent of each type and id. [`send`] makes the unit of a set that the receiver doesn't have, and
 //!   [`forget_before`] forgets all sets before a picture where a receiver may begin.
 //! - [`write_all_of`], [`write_one`], [`write_some`] and [`write_end`] write units with their start codes.

@@ -75,7 +75,7 @@ impl SentSet {
         }
     }
 
-    /// Returns whether it is the PPS of these items under this id, and can be decoded with pictures of this TemporalId.
+    /// Returns whether it is this PPS under `id`, and can be decoded with pictures of this TemporalId.
     fn serves_pps_as(&self, temporal_id: u8, pps: &[Item], id: u32) -> bool
         ensures { result ≡ (resident.same_set self.now.set (a_pps (pps_with_id id pps.now)) && nat_le self.now.temporal_id temporal_id) }
     {
@@ -138,7 +138,9 @@ impl Slots {
         None
     }
 
-    /// Returns whether the last set of its type and id is the same set, and can be decoded with pictures of this TemporalId.
+    /// Returns whether `set` is the last one sent of its type and id, and can be decoded with the picture.
+    ///
+    /// `temporal_id` is that of the picture.
     pub fn serves(&self, temporal_id: u8, set: NeededSet<'_>) -> bool
         ensures { result ≡ held_serves temporal_id (set_lent set.entry) self.now }
     {
@@ -193,9 +195,9 @@ impl Slots {
         }
     }
 
-    /// Records a set that is sent in a unit with this TemporalId, in place of the one of its type and id.
+    /// Records a set that is sent, in place of the one of its type and id.
     ///
-    /// *Errors:* [`AllocError`] if memory runs out; nothing changes.
+    /// `temporal_id` is that of its unit. *Errors:* [`AllocError`] if memory runs out; nothing changes.
     pub fn put(
         &mut self,
         alloc: Global,

@@ -55,9 +55,9 @@ pub fn pps_unit(alloc: Global, pps: &Pps, temporal_id: u8) -> Result<Vec<u8>, Al
     Ok(unit)
 }
 
-/// Makes the unit of an adaptation parameter set for a picture of this TemporalId: its type and id, and its body (H.266 7.3.2.6).
+/// Makes the unit of an adaptation parameter set for a picture of this TemporalId (H.266 7.3.2.6).
 ///
-/// *Errors:* [`AllocError`] if memory runs out.
+/// `kind` and `id` are its type and id; `body` are its bytes after these. *Errors:* [`AllocError`] if memory runs out.
 pub fn aps_unit(
     alloc: Global,
     kind: u8,
