@@ -1,4 +1,4 @@
-//! Codes that are read and written.
+//! Reading and writing codes.
 
 use crate::words::{bytes_of, push_bytes, push_gap};
 use anyhow::{Context, Result, bail};

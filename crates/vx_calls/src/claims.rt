@@ -1,4 +1,4 @@
-//! Tables of which is claimed what their fields depend on, and which fields have a star.
+//! Tables, with claims on what their fields depend on, and which fields have a star.
 #![allow(non_upper_case_globals)]
 
 use crate::structures::Structure;

@@ -1,5 +1,6 @@
-//! A structure of a table, a part in direct style and a table: read, passed over, written, sifted and rewritten by one
-//! walk, and what is claimed of it.
+//! A structure of a table, a part in direct style and a table, and claims on it.
+//!
+//! One walk reads, skips, writes, sifts and rewrites it.
 #![allow(non_upper_case_globals)]
 
 ghost use Rattle.std.specs.Prelude.{◌≡◌};

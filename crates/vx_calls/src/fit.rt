@@ -1,4 +1,4 @@
-//! Regions that are put together into a frame, and the frame's tile lines.
+//! Regions that are fitted into a frame, and the frame's tile lines.
 ghost use Rattle.std.specs.Prelude.{◌≡◌, ◌<◌, ◌≤◌, All, IfOk, length, map};
 ghost use Rattle.std.specs.Bool.{OnTrue};
 ghost use Rattle.std.specs.List.{AllZip};

@@ -1,4 +1,4 @@
-//! Structures that are coded by their tables, and what is claimed of these.
+//! Structures that are coded by their tables, and claims on them.
 ghost use Rattle.std.specs.Prelude.{◌≤◌, length};
 ghost use Rattle.vx_bits.specs.Limits.{unit_limit};
 

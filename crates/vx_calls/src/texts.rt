@@ -1,4 +1,4 @@
-//! What errors say of themselves.
+//! The texts of errors.
 
 use anyhow::{Result, bail};
 use std::alloc::AllocError;

@@ -1,4 +1,4 @@
-//! Single units: their headers, their emulation bytes, and how they are written to a sink.
+//! Single units: their headers, their emulation prevention bytes, and writing them to a sink.
 
 use crate::memory::sink_of;
 use crate::words::{bytes_of, mark, push_bytes, push_gap};

@@ -1,4 +1,4 @@
-//! Streams that are made from a number.
+//! Streams generated from a number.
 
 use anyhow::{Context, Result, bail};
 use std::alloc::Global;
@@ -7,7 +7,7 @@ use vx_gen::generate;
 /// The most streams that are made at once.
 const MOST_STREAMS: u32 = 16;
 
-/// `SEED SOURCES PICTURES NUMBER`: the bytes of this one of the streams, in hexadecimal.
+/// Does `SEED SOURCES PICTURES NUMBER`: returns the bytes of this stream in hexadecimal.
 pub(crate) fn generated(alloc: Global, words: &[&str]) -> Result<String> {
     let [seed, sources, pictures, number] = words else {
         bail!("a generated stream has four numbers");

@@ -42,7 +42,7 @@ fn main(rt: HostRuntime) -> ExitCode {
     }
 }
 
-/// Runs each case that is read, and tells what it comes to.
+/// Runs each case of the input, and prints its result.
 fn tell_cases(rt: &(impl Input + Print + AllocGlobal)) -> Result<()> {
     let alloc = rt.alloc();
     let mut script = Script::new(alloc);

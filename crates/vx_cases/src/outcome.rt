@@ -1,4 +1,4 @@
-//! What a case comes to.
+//! The result of a case.
 
 ghost use Rattle.std.specs.Prelude.{◌≡◌, ◌≢◌, [], IfOk, map, vec_len};
 ghost use Rattle.vx_io.specs.Memory.{fresh_plan};
@@ -13,7 +13,7 @@ use std::alloc::{AllocError, Global};
 use vx_io::{ClosedSource, MemorySink, MemorySource, Source};
 use vx_run::{file_count, file_word, run};
 
-/// What the program answered and wrote.
+/// The status of a run, and what it wrote.
 #[derive(Drop)]
 pub(crate) struct Outcome {
     pub status: u8,
@@ -21,14 +21,14 @@ pub(crate) struct Outcome {
     pub out: Vec<u8>,
 }
 
-/// Room for what a case may write on `out`, and for its line.
+/// The room for the output of a case, and for its line.
 const OUT_ROOM: usize = 1 << 24;
 
 const LINE_ROOM: usize = 400;
 
 const BLANK: u8 = b' ';
 
-/// Runs the program with these words over named bytes.
+/// Runs the program with these arguments over named bytes.
 pub(crate) fn outcome_of(
     alloc: Global,
     streams: &Streams,
@@ -48,7 +48,7 @@ pub(crate) fn outcome_of(
     run_on(alloc, setup, &words, &mut sources)
 }
 
-/// Runs the program with these words over sources.
+/// Runs the program with these arguments over sources.
 fn run_on(
     alloc: Global,
     setup: &Setup,
@@ -67,7 +67,7 @@ fn run_on(
     })
 }
 
-/// The words, each as a string of its own.
+/// Returns each argument as a string of its own.
 fn strings_of(alloc: Global, words: &[&str]) -> Result<Vec<String>, AllocError>
     ensures { IfOk result (λ strings. texts strings.items ≡ map (λ word. word.now) words.now) }
 {
@@ -78,7 +78,7 @@ fn strings_of(alloc: Global, words: &[&str]) -> Result<Vec<String>, AllocError>
     Ok(strings)
 }
 
-/// The bytes that the k-th file names, read as the case says.
+/// Makes the source of the bytes that file `k` names, read as the case says.
 fn source_of(
     alloc: Global,
     streams: &Streams,
@@ -97,7 +97,7 @@ fn source_of(
     ))
 }
 
-/// A sink that takes what is written as the case says.
+/// Makes a sink that takes what is written as the case says.
 fn sink_of(alloc: Global, setup: &Setup, end: End, room: usize) -> Result<MemorySink, AllocError>
     ensures { IfOk result (λ sink. sink ≡ record {
       taken = [];
@@ -109,7 +109,7 @@ fn sink_of(alloc: Global, setup: &Setup, end: End, room: usize) -> Result<Memory
     MemorySink::new(alloc, room, pieces, setup.failing_of(alloc, end)?)
 }
 
-/// The line that tells of an outcome. What is kept isn't told.
+/// Makes the line of a result. Output that is kept isn't in it.
 pub(crate) fn told(alloc: Global, outcome: &Outcome, is_kept: bool) -> Result<String, AllocError> {
     let status = outcome.status;
     let err = told_err(alloc, &outcome.err)?;
@@ -121,7 +121,7 @@ pub(crate) fn told(alloc: Global, outcome: &Outcome, is_kept: bool) -> Result<St
     format!(in alloc; "status={status} err={err} out={out}")
 }
 
-/// A line without its line feed, with its blanks as `_`: `-` for none, and `~` behind one that was cut short.
+/// Returns a line without its line feed, with its blanks as `_`: `-` for none, and `~` after one that was cut short.
 fn told_err(alloc: Global, line: &[u8]) -> Result<String, AllocError> {
     if line.is_empty() {
         return String::from_str(alloc, "-");

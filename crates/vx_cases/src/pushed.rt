@@ -1,4 +1,4 @@
-//! Cases whose sources are handed in piece by piece.
+//! Cases with sources that are pushed piece by piece.
 
 ghost use Rattle.std.specs.Prelude.{◌≤◌};
 
@@ -10,16 +10,16 @@ use vx_merge::Corner;
 use vx_push::{Cut, Cutter, Mixed, Mixer, are_corners, stop_line};
 use vx_run::{Stop, Task};
 
-/// How the pieces of several sources are handed in.
+/// The order in which pieces of several sources are pushed.
 #[derive(Clone, Copy, PartialEq, Eq)]
 enum Order {
-    /// A piece of each in turn.
+    /// A piece of each source in turn.
     Turns,
-    /// Of one source after another all that is taken.
+    /// Of one source after another, all that is taken.
     Sources,
 }
 
-/// What a mixer or a cutter has come to.
+/// Where a mixer or a cutter stands.
 enum Step {
     Picture,
     Waits,
@@ -31,13 +31,13 @@ enum Step {
 trait Work {
     fn next_step(&mut self) -> Step;
 
-    /// Hands bytes of source `k` in, and answers how many were taken.
+    /// Pushes bytes to source `k`, and returns how many were taken.
     fn hand_in(&mut self, k: usize, piece: &[u8]) -> Option<usize>;
 
-    /// There are no more of source `k`.
+    /// Declares that source `k` has no more bytes.
     fn end_of(&mut self, k: usize);
 
-    /// How many bytes are to be taken.
+    /// Returns how many bytes are to be taken.
     fn count(&self) -> Option<usize>;
 
     fn take_into(&mut self, into: &mut [u8]) -> Option<usize>;
@@ -97,10 +97,10 @@ impl Work for Cutter {
     }
 }
 
-/// How many times more is handed in, or a picture is taken, at most.
+/// The most steps, each of which pushes bytes or takes a picture.
 const MOST_STEPS: u32 = 1 << 26;
 
-/// `LENGTH ORDER merge [--level N] X,Y=NAME ..` or `LENGTH ORDER extract [--tid T] [--level N] INDEX NAME`
+/// Does `LENGTH ORDER merge [--level N] X,Y=NAME ..` or `LENGTH ORDER extract [--tid T] [--level N] INDEX NAME`.
 pub(crate) fn pushed(alloc: Global, streams: &Streams, words: &[&str]) -> Result<Outcome> {
     let [length, order, command, words @ ..] = words else {
         bail!("no command");
@@ -122,7 +122,7 @@ fn order_of(word: &str) -> Result<Order> {
     }
 }
 
-/// The number behind an option, where the words begin with that, and the other words.
+/// Returns the number of an option, if the words begin with it, and the other words.
 fn option_first<'a, 'b>(words: &'a [&'b str], option: &str) -> Result<(Option<u8>, &'a [&'b str])> {
     match words {
         [first, number, rest @ ..] if *first == option => Ok((Some(number.parse::<u8>()?), rest)),
@@ -130,7 +130,7 @@ fn option_first<'a, 'b>(words: &'a [&'b str], option: &str) -> Result<(Option<u8
     }
 }
 
-/// Merges sources that are handed in in pieces of so many bytes.
+/// Merges sources that are pushed in pieces of this length.
 fn merged(
     alloc: Global,
     streams: &Streams,
@@ -147,7 +147,7 @@ fn merged(
     mixed(alloc, &corners, level, &mut rests, length, order)
 }
 
-/// Mixes sources that are handed in so.
+/// Mixes sources that are pushed so.
 fn mixed(
     alloc: Global,
     corners: &[Corner],
@@ -163,7 +163,7 @@ fn mixed(
     outcome_of(alloc, &mut mixer, rests, length, order)
 }
 
-/// Extracts of a source that is handed in so.
+/// Extracts from a source that is pushed in pieces of this length.
 fn extracted(
     alloc: Global,
     streams: &Streams,
@@ -186,7 +186,7 @@ fn extracted(
     cut(alloc, task, &mut rests, length, order)
 }
 
-/// Cuts a subpicture out of a source that is handed in so.
+/// Cuts a subpicture out of a source that is pushed so.
 fn cut(
     alloc: Global,
     task: Task,
@@ -200,7 +200,7 @@ fn cut(
     outcome_of(alloc, &mut cutter, rests, length, order)
 }
 
-/// `X,Y=NAME`: the corner and the name.
+/// Parses `X,Y=NAME` into the corner and the name.
 fn placing(word: &str) -> Result<(Corner, &str)> {
     let (place, name) = word.split_once('=').context("no name")?;
     let (x, y) = place.split_once(',').context("no corner")?;
@@ -219,7 +219,7 @@ fn corners_of(alloc: Global, words: &[&str]) -> Result<Vec<Corner>> {
     Ok(corners)
 }
 
-/// Hands the sources in until there are no more pictures, and tells what that comes to.
+/// Pushes the sources until there are no more pictures, and returns the result.
 fn outcome_of<W: Work>(
     alloc: Global,
     work: &mut W,
@@ -239,7 +239,7 @@ fn outcome_of<W: Work>(
     bail!("no end")
 }
 
-/// The status and the line of the program that ends so.
+/// Returns the status and the line of a program that ends so.
 fn ended(alloc: Global, stop: Option<Stop>, out: Vec<u8>) -> Result<Outcome> {
     let (status, err) = match stop {
         None => (0, Vec::new(alloc)),
@@ -258,7 +258,7 @@ fn take<W: Work>(alloc: Global, work: &mut W, out: &mut Vec<u8>) -> Result<()> {
     Ok(())
 }
 
-/// Hands in more of each source.
+/// Pushes more of each source.
 fn hand_in_each<W: Work>(
     work: &mut W,
     rests: &mut Vec<&[u8]>,
@@ -275,8 +275,7 @@ fn hand_in_each<W: Work>(
     Ok(())
 }
 
-/// Hands in so many pieces of source `k` at most, as long as any are taken, and its end where nothing is left of it; and answers what is
-/// left.
+/// Pushes at most this many pieces of source `k`, as long as any are taken, and its end if nothing is left; returns what is left.
 fn hand_in<'a, W: Work>(
     work: &mut W,
     k: usize,

@@ -1,4 +1,4 @@
-//! The lines of the input, one after the other.
+//! The lines of the input, one after another.
 
 use crate::generated::generated;
 use crate::outcome::{outcome_of, told};
@@ -9,7 +9,7 @@ use anyhow::{Context, Result};
 use std::alloc::Global;
 use std::mem;
 
-/// What the lines so far have said: the bytes that have names, and how the next case goes.
+/// What the lines so far have said: the bytes that have names, and how the calls of the next case go.
 #[derive(Drop)]
 pub(crate) struct Script {
     streams: Streams,
@@ -24,7 +24,7 @@ impl Script {
         }
     }
 
-    /// Does what a line says, and answers the line that its case makes, where it is one.
+    /// Does what a line says, and returns the line that it prints, if it prints one.
     pub(crate) fn take(&mut self, alloc: Global, line: &str) -> Result<Option<String>> {
         let words: Vec<&str> = line.split_ascii_whitespace().collect(alloc)?;
         let Some((verb, rest)) = words.split_first() else {
@@ -44,13 +44,13 @@ impl Script {
         Ok(None)
     }
 
-    /// `stream NAME PART ..`
+    /// Does `stream NAME PART ..`.
     fn name_stream(&mut self, alloc: Global, words: &[&str]) -> Result<()> {
         let (name, parts) = words.split_first().context("a stream without a name")?;
         self.streams.spell(alloc, name, parts)
     }
 
-    /// `case WORD ..`
+    /// Does `case WORD ..`.
     fn run(&mut self, alloc: Global, words: &[&str]) -> Result<String> {
         let setup = mem::replace(&mut self.setup, Setup::new(alloc));
         let outcome = outcome_of(alloc, &self.streams, &setup, words)?;

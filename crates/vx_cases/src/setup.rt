@@ -16,7 +16,7 @@ pub(crate) enum End {
 }
 
 impl End {
-    /// Whether what is said of this end is said of that one.
+    /// Returns whether what is said of this end is said of `other`.
     fn covers(self, other: End) -> bool
         ensures { result ≡ covers self other }
     {
@@ -24,7 +24,7 @@ impl End {
     }
 }
 
-/// What was said of the next case.
+/// What the lines have said about the next case.
 #[derive(Drop)]
 pub(crate) struct Setup {
     pieces: Vec<(End, u32)>,
@@ -34,7 +34,7 @@ pub(crate) struct Setup {
 }
 
 impl Setup {
-    /// Nothing was said yet.
+    /// Makes a setup of which nothing is said.
     pub(crate) fn new(alloc: Global) -> Setup
         ensures pieces { result.pieces.items ≡ [] }
         ensures failing { result.failing.items ≡ [] }
@@ -49,7 +49,7 @@ impl Setup {
         }
     }
 
-    /// Says more of the case: `pieces END NUMBER ..`, `fail END NUMBER ..`, `closed NUMBER` or `keep NAME`.
+    /// Takes a line about the case: `pieces END NUMBER ..`, `fail END NUMBER ..`, `closed NUMBER` or `keep NAME`.
     pub(crate) fn say(&mut self, alloc: Global, verb: &str, words: &[&str]) -> Result<()>
         ensures { SaysMore self.old self.new }
     {
@@ -65,7 +65,7 @@ impl Setup {
         }
     }
 
-    /// Says more of how many bytes the calls of an end take.
+    /// Takes more numbers of bytes that the calls of an end transfer.
     fn cut(&mut self, end: End, numbers: &[&str]) -> Result<()>
         ensures more { SaysOf end self.old.pieces.items self.new.pieces.items }
         ensures rest { self.new ≡ record self.old { pieces = self.new.pieces } }
@@ -76,7 +76,7 @@ impl Setup {
         Ok(())
     }
 
-    /// Says more of which calls of an end fail.
+    /// Takes more numbers of calls of an end that fail.
     fn fail(&mut self, end: End, numbers: &[&str]) -> Result<()>
         ensures more { SaysOf end self.old.failing.items self.new.failing.items }
         ensures rest { self.new ≡ record self.old { failing = self.new.failing } }
@@ -87,7 +87,7 @@ impl Setup {
         Ok(())
     }
 
-    /// How many bytes the calls of this end take, in turn.
+    /// Returns how many bytes the calls of this end transfer, in turn.
     pub(crate) fn pieces_of(&self, alloc: Global, end: End) -> Result<Vec<u32>, AllocError>
         ensures { IfOk result (λ pieces. pieces.items ≡ said_of end self.now.pieces.items) }
     {
@@ -95,7 +95,7 @@ impl Setup {
         pieces.map(|(_, piece)| *piece).collect(alloc)
     }
 
-    /// The calls of this end that fail.
+    /// Returns the calls of this end that fail.
     pub(crate) fn failing_of(&self, alloc: Global, end: End) -> Result<Vec<u64>, AllocError>
         ensures { IfOk result (λ calls. calls.items ≡ said_of end self.now.failing.items) }
     {
@@ -103,14 +103,14 @@ impl Setup {
         failing.map(|(_, call)| *call).collect(alloc)
     }
 
-    /// Whether this source always fails.
+    /// Returns whether this source always fails.
     pub(crate) fn is_closed(&self, source: usize) -> bool
         ensures { IsTrue result ↔ Contains self.now.closed.items source }
     {
         self.closed.contains(&source)
     }
 
-    /// The name of what is written on `out`, where it has one.
+    /// Returns the name of what is written on `out`, if it has one.
     pub(crate) fn kept(&self) -> Option<&str>
         ensures { option_copied result ≡ option_map string_bytes self.now.kept }
     {
@@ -118,7 +118,7 @@ impl Setup {
     }
 }
 
-/// `out`, `err`, `all`, or the number of a source.
+/// Parses `out`, `err`, `all`, or the number of a source.
 fn end_of(word: &str) -> Result<End> {
     match word {
         "out" => Ok(End::Out),

@@ -15,7 +15,7 @@ pub(crate) struct Streams {
 }
 
 impl Streams {
-    /// Nothing has a name yet.
+    /// Makes a table without names.
     pub(crate) fn new(alloc: Global) -> Streams
         ensures { IsEmpty result.named }
     {
@@ -24,7 +24,7 @@ impl Streams {
         }
     }
 
-    /// Names bytes. What had this name before has none.
+    /// Gives bytes a name. What had this name before loses it.
     pub(crate) fn insert(
         &mut self,
         alloc: Global,
@@ -37,7 +37,7 @@ impl Streams {
         Ok(())
     }
 
-    /// Names the bytes that these parts spell.
+    /// Gives a name to the bytes of these parts.
     pub(crate) fn spell(&mut self, alloc: Global, name: &str, parts: &[&str]) -> Result<()>
         ensures { OnOk result (IsSome (get_by_text self.new.named name.now)) }
     {
@@ -49,7 +49,7 @@ impl Streams {
         Ok(())
     }
 
-    /// The bytes of this name.
+    /// Returns the bytes of this name.
     pub(crate) fn get(&self, name: &str) -> Result<&Vec<u8>>
         ensures { IfOk result (λ bytes. get_by_text self.now.named name.now ≡ Some bytes.now) }
     {
@@ -59,7 +59,7 @@ impl Streams {
     }
 }
 
-/// Adds the bytes that a part spells: hexadecimal, these a number of times, or `-` for none.
+/// Appends the bytes of a part: hexadecimal, such bytes repeated, or `-` for none.
 fn push_part(alloc: Global, bytes: &mut Vec<u8>, part: &str) -> Result<()>
     ensures { OnOk result (StartsWith bytes.new.items bytes.old.items) }
 {

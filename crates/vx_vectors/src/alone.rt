@@ -1,4 +1,4 @@
-//! Answers to headers by themselves, under the sets of the PPS with the id 0, whatever ids they name.
+//! Results for headers by themselves, under the sets of the PPS with the id 0, whatever ids they name.
 ghost use Rattle.std.specs.Prelude.{◌≡◌, ◌≤◌, length};
 ghost use Rattle.vx_bits.specs.Limits.{unit_limit};
 

@@ -1,18 +1,18 @@
-//! Lines that ask about a call of a library by itself, each by a word and what the call is given.
+//! Lines that call one function of a library, each with a name and the arguments of the call.
 //!
-//! - `structures WEIGHTED ITEMS`: the structures of reference picture lists that items of an SPS tell.
-//! - `structure NUMBERS INDEX,COUNT BYTES`: a structure that is read; NUMBERS are four, as `RplNumbers` has them.
-//! - `spell NUMBERS ITEMS`: a structure that is written.
-//! - `lists NUMBERS ITEMS BYTES`: the two lists of a header, under the structures that items of an SPS tell.
-//! - `weights NUMBERS BYTES`: prediction weights; NUMBERS are seven, as `WeightNumbers` has them.
-//! - `ptl SUBLAYER BYTES`, `dpb SUBLAYER,EACH BYTES`, `timing SUBLAYER,EACH BYTES`: structures of levels, DPBs and timing, up to that
-//!   highest sublayer; and `levels`: whether their tables keep no field.
-//! - `count BITS,LSB CYCLE CLVSS LSB POC`: a picture order count behind that of a previous picture, with a cycle or `-`.
+//! - `structures WEIGHTED ITEMS`: the structures of reference picture lists that items of an SPS state.
+//! - `structure NUMBERS INDEX,COUNT BYTES`: reads a structure; NUMBERS are four, as in `RplNumbers`.
+//! - `spell NUMBERS ITEMS`: writes a structure.
+//! - `lists NUMBERS ITEMS BYTES`: the two lists of a header, under the structures that items of an SPS state.
+//! - `weights NUMBERS BYTES`: prediction weights; NUMBERS are seven, as in `WeightNumbers`.
+//! - `ptl SUBLAYER BYTES`, `dpb SUBLAYER,EACH BYTES`, `timing SUBLAYER,EACH BYTES`: structures of levels, DPBs and timing, up to this
+//!   highest sublayer; `levels`: whether their tables keep no field.
+//! - `count BITS,LSB CYCLE CLVSS LSB POC`: the picture order count after that of a previous picture, with a cycle or `-`.
 //! - `differ ITEM ADDRESS BYTES ITEM ADDRESS BYTES`: where two decoding inputs differ.
-//! - `feed PIECE CALLS BYTES`: what a feed answers over bytes that come in such pieces; CALLS fail, or `-` for none.
+//! - `feed PIECE CALLS BYTES`: what a feed returns over bytes in pieces of this length; CALLS fail, or none for `-`.
 //! - `unit-line`, `picture-line` and `refusal-line`: lines that the program prints.
 //!
-//! Items stand as `179=64;301=1,304=0,305=1*64`.
+//! Items are written as `179=64;301=1,304=0,305=1*64`.
 
 use crate::counts::answer_count;
 use crate::differences::answer_differ;

@@ -1,4 +1,4 @@
-//! Answers to picture order counts by themselves.
+//! Results for picture order counts by themselves.
 ghost use Rattle.std.specs.Prelude.{◌≤◌, IfOk};
 
 use crate::fault::LineFault;

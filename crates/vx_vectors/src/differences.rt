@@ -1,4 +1,4 @@
-//! Answers to decoding inputs that differ.
+//! Results for decoding inputs that differ.
 
 use crate::fault::LineFault;
 use crate::line::LineBytes;

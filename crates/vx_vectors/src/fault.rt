@@ -1,4 +1,4 @@
-//! Why a line gets no answer.
+//! The reasons why a line has no result.
 
 use std::alloc::AllocError;
 use std::io;

@@ -1,4 +1,4 @@
-//! Answers to feeds over bytes that come in pieces, or can't be read.
+//! Results for feeds over bytes that come in pieces, or can't be read.
 
 use crate::fault::LineFault;
 use crate::line::LineBytes;

@@ -1,4 +1,4 @@
-//! The sets of a picture, and what these make up.
+//! The sets of a picture, and what they make up.
 ghost use Rattle.std.specs.Prelude.{◌≡◌, ◌≤◌, length, IfOk, Ok};
 ghost use Rattle.vx_bits.specs.Limits.{unit_limit};
 ghost use Rattle.vx_pic.specs.PictureLayout.{AnswersLayout, ids_of};

@@ -1,4 +1,4 @@
-//! Answers to picture headers that are units of their own.
+//! Results for picture headers in units of their own.
 ghost use Rattle.std.specs.Prelude.{◌≤◌, length};
 ghost use Rattle.vx_bits.specs.Limits.{unit_limit};
 ghost use Rattle.vx_ph.specs.InForce.{in_force, structures};

@@ -1,4 +1,4 @@
-//! The decoding input of a slice as text.
+//! The text of a slice's decoding input.
 
 use crate::text::{mark, write_bounds, write_bytes, write_entry, write_rects};
 use std::alloc::AllocError;

@@ -1,4 +1,4 @@
-//! Kept items of sets, and the numbers of large ones.
+//! Kept items of sets, and the number of items of large ones.
 ghost use Rattle.std.specs.Prelude.{◌≤◌, length};
 ghost use Rattle.vx_bits.specs.Limits.{unit_limit};
 

@@ -1,4 +1,4 @@
-//! Answers to profile, tier and level, to DPB parameters, and to timing, by themselves.
+//! Results for profile, tier and level, for DPB parameters, and for timing, by themselves.
 ghost use Rattle.std.specs.Prelude.{◌≤◌, ◌^◌, length, IfOk};
 
 use crate::fault::LineFault;

@@ -1,4 +1,4 @@
-//! The lines that are read.
+//! The lines of the input.
 ghost use Rattle.std.specs.Prelude.{◌≤◌, length};
 ghost use Rattle.vx_bits.specs.Limits.{unit_limit};
 

@@ -1,4 +1,6 @@
-//! Answers to what the program prints of units, pictures and refusals: also of those that no stream of a length that is stored has.
+//! Results for the lines that the program prints of units, pictures and refusals.
+//!
+//! Some are lines that no stream of a stored length has.
 
 use crate::fault::LineFault;
 use crate::words::flag;

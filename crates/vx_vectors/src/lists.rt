@@ -1,4 +1,4 @@
-//! Answers to structures of reference picture lists, to the lists of headers, and to prediction weights.
+//! Results for structures of reference picture lists, for the lists of headers, and for prediction weights.
 ghost use Rattle.std.specs.Prelude.{◌≤◌, IfOk};
 
 use crate::fault::LineFault;

@@ -1,4 +1,4 @@
-//! What sets tell beyond their items.
+//! What sets mean beyond their items.
 
 use crate::fault::LineFault;
 use crate::text::{mark, write_bounds, write_entry, write_rects};

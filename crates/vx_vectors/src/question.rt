@@ -1,4 +1,4 @@
-//! What lines ask of bytes.
+//! What lines ask about bytes.
 ghost use Rattle.std.specs.Prelude.{◌≤◌, length};
 ghost use Rattle.vx_bits.specs.Limits.{unit_limit};
 

@@ -1,4 +1,4 @@
-//! The bytes of a line about a picture header that is rewritten.
+//! The bytes of a line about a rewritten picture header.
 
 use crate::fault::LineFault;
 use crate::frame::Sets;

@@ -1,4 +1,4 @@
-//! Picture headers that are rewritten so that they say what others say.
+//! Picture headers that are rewritten to say what others say.
 ghost use Rattle.std.specs.Prelude.{◌≡◌, ◌≤◌, IfOk, length};
 ghost use Rattle.std.specs.Bool.{OnTrue};
 ghost use Rattle.vx_bits.specs.Limits.{unit_limit};

@@ -1,4 +1,4 @@
-//! Picture parameter sets that are rewritten so that they say what others say.
+//! Picture parameter sets that are rewritten to say what others say.
 ghost use Rattle.std.specs.Prelude.{◌≡◌, ℕ, ◌+◌, ◌<◌, ◌≤◌, ◌≤ℤ◌, ◌^◌, pos, neg_ℤ, IfOk, IfSome, Ok, length};
 ghost use Rattle.std.specs.Bool.{OnTrue};
 ghost use Rattle.std.specs.Int.{div_ceil};

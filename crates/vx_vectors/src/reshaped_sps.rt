@@ -1,4 +1,4 @@
-//! Sequence parameter sets that are rewritten so that they say what others say.
+//! Sequence parameter sets that are rewritten to say what others say.
 ghost use Rattle.std.specs.Prelude.{◌+◌, ◌<◌, ◌≤◌, ◌^◌, All, length};
 ghost use Rattle.std.specs.Bool.{OnTrue};
 ghost use Rattle.vx_bits.specs.Codes.{IsCodeNumber};

@@ -1,4 +1,4 @@
-//! Answers to parameter sets by themselves.
+//! Results for parameter sets by themselves.
 ghost use Rattle.std.specs.Prelude.{◌≤◌, length};
 ghost use Rattle.vx_bits.specs.Limits.{unit_limit};
 ghost use Rattle.vx_aps.specs.Aps.{IsValid};

@@ -1,4 +1,4 @@
-//! Answers to slice headers.
+//! Results for slice headers.
 ghost use Rattle.std.specs.Prelude.{◌≡◌, ◌*◌, ◌≤◌, [], length, drop};
 ghost use Rattle.vx_bits.specs.Codes.{bits_of};
 ghost use Rattle.vx_bits.specs.Limits.{unit_limit};

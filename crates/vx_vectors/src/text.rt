@@ -1,4 +1,4 @@
-//! What answers have in common: items, refusals, bytes, rectangles.
+//! What results have in common: items, refusals, bytes, rectangles.
 
 use std::alloc::AllocError;
 use vx_bits::{Fields, Item, Refusal};

@@ -1,4 +1,4 @@
-//! The words of a line that asks about a call: numbers, flags and items; and what reading came to as text.
+//! The arguments of a line that calls a function: numbers, flags and items; and the text of what reading returns.
 
 use crate::fault::LineFault;
 use crate::text::{write_items, write_refusal};
