@@ -1,4 +1,4 @@
--- The RBSP of an adaptation parameter set (H.266 7.3.2.6, 7.4.3.6): its type and id in the first byte, and its body behind it.
+-- The RBSP of an adaptation parameter set (H.266 7.3.2.6, 7.4.3.6): its type and id in the first byte, and its body after it.
 use Rattle.std.specs.Prelude.{◌≡◌, ℕ, ◌+◌, ◌*◌, ◌≤◌, ◌<◌, ◌==◌, cond, List, [], ◌∷◌, length, Option, Some, None, Result, Ok, Err}
 use Rattle.vx_bits.specs.declared.refusal.Refusal.{Refusal}
 use Rattle.vx_bits.specs.declared.refusal.Refusal.TheVariants.{Syntax, Profile}
@@ -11,22 +11,22 @@ use Rattle.vx_fields.specs.declared.aps.TheConstants.{aps_params_type, aps_body}
 use Rattle.vx_aps.specs.declared.aps.Aps.{Aps}
 use Rattle.vx_aps.specs.declared.aps.TheConstants.{LMCS, SCALING}
 
--- aps_params_type u(3), aps_adaptation_parameter_set_id u(5), and the body (7.3.2.6)
+-- aps_params_type u(3), aps_adaptation_parameter_set_id u(5), and the body (7.3.2.6).
 abbrev pub spelled : ℕ → ℕ → List ℕ → List ℕ
 spelled kind id body = (32 * kind + id) ∷ body
 
--- how many ids a type has: 0 to 3 for LMCS, and 0 to 7 for the others (7.4.3.6)
+-- How many ids a type has: 0 to 3 for LMCS, and 0 to 7 for the others (7.4.3.6).
 abbrev pub ids_of_type : ℕ → ℕ
 ids_of_type kind = cond (kind == LMCS) 4 8
 
--- a set of one of the three types, whose body can end a unit (7.4.3.6)
+-- A set of one of the three types, whose body can end a unit (7.4.3.6).
 pub record IsValid (aps : Aps) : Type 0 where
   pub kind : aps.kind ≤ SCALING
   pub id : aps.id < ids_of_type aps.kind
   pub some : 0 < length aps.body
   pub ends : EndsInNoZero aps.body
 
--- the bytes are those of a set (7.3.2.6),
+-- The bytes are those of a set (7.3.2.6),
 pub record IsAps (rbsp : List ℕ) (aps : Aps) : Type 0 where
   pub valid : IsValid aps
   pub bytes : rbsp ≡ spelled aps.kind aps.id aps.body

@@ -7,29 +7,29 @@ use Rattle.vx_aps.specs.declared.aps.Aps.{Aps}
 use Rattle.vx_aps.specs.declared.fields.ApsFields.{ApsFields}
 use Rattle.vx_aps.specs.Aps.{IsAnswer, IsRefusedAps, no_type, no_such_id, no_body, bad_end}
 
--- aps_params_type, and aps_adaptation_parameter_set_id (7.3.2.6)
+-- aps_params_type, and aps_adaptation_parameter_set_id (7.3.2.6).
 abbrev pub type_item : ℕ → Item
 type_item kind = record { field = aps_params_type; value = pos kind }
 
 abbrev pub id_item : ℕ → Item
 id_item id = record { field = aps_adaptation_parameter_set_id; value = pos id }
 
--- a type alone, whose id is refused (our own)
+-- A type alone, whose id is refused (our own).
 abbrev pub with_type : ℕ → ApsFields
 with_type kind = record { items = type_item kind ∷ []; body = None }
 
--- a type and an id, and a body of so many bytes, unless it is refused (our own)
+-- A type and an id, and a body of so many bytes, unless it is refused (our own).
 abbrev pub with_id : ℕ → ℕ → Option ℕ → ApsFields
 with_id kind id body = record { items = type_item kind ∷ id_item id ∷ []; body = body }
 
--- those before a refusal (our own)
+-- Those before a refusal (our own).
 abbrev pub before_refusal : (rbsp : List ℕ) (r : Refusal) → IsRefusedAps rbsp r → ApsFields
 before_refusal rbsp r (no_type none) = record { items = []; body = None }
 before_refusal rbsp r (no_such_id kind id body bytes known five_bits lacks) = with_type kind
 before_refusal rbsp r (no_body kind id bytes known has) = with_id kind id None
 before_refusal rbsp r (bad_end kind id body bytes known has ends) = with_id kind id None
 
--- those of bytes, by what they are (our own)
+-- Those of bytes, by what they are (our own).
 abbrev pub fields_in : (rbsp : List ℕ) (answer : Result (Option Aps) Refusal) → IsAnswer rbsp answer → ApsFields
 fields_in rbsp (Ok (Some aps)) is = with_id aps.kind aps.id (Some (length aps.body))
 fields_in rbsp (Ok None) is = with_id is.kind is.id (Some (length is.body))

@@ -1,4 +1,4 @@
--- Definitions that the contracts of this crate cite.
+-- The definitions that the contracts of this crate cite.
 pub mod Aps
 pub mod Fields
 pub mod inner

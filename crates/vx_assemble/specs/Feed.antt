@@ -30,34 +30,34 @@ use Rattle.vx_assemble.specs.declared.feed.Taken.{Taken}
 use Rattle.vx_assemble.specs.declared.feed.Taken.TheVariants.{Nal, End}
 use Rattle.vx_assemble.specs.Held.{Held, Stands, told}
 
--- a feed: its reader and its assembler, how many units it took, and what first kept it from going on
+-- A feed: its reader and its assembler, how many units it took, and what first kept it from going on.
 pub record Feeding : Type 0 where
   pub reader : reader.Reading
   pub assembler : Held
   pub units : ℕ
   pub first : Option First
 
--- its source may be read on
+-- Its source may be read on.
 pub record IsOpen (f : Feeding) : Type 0 where
   pub reader : reader.IsOpen f.reader
   pub going : f.first ≡ None
 
--- where it found the end of its source, that has no bytes left
+-- Where it found the end of its source, that has no bytes left.
 abbrev pub EndsAtEnd : Feeding → Option (List ℕ) → Type 0
 EndsAtEnd f left = f.reader.closed ≡ Some closed.End → IsAtEnd left
 
--- what an answer says of what first kept it from going on
+-- What an answer says of what first kept it from going on.
 abbrev pub first_of : FeedFault → First
 first_of faults.Memory = firsts.Memory
 first_of faults.SourceFailed = firsts.SourceFailed
 first_of (faults.Refused r) = firsts.Refused r
 first_of (faults.Stopped f) = f
 
--- the bytes that are looked at
+-- The bytes that are looked at.
 abbrev pub seen_of : List ℕ → List ℕ
 seen_of g = take source_limit g
 
--- g are the bytes that it took, and the units at these places were taken, and read as these
+-- g are the bytes that it took, and the units at these places were taken, and read as these.
 pub record HasFed (R : Readers) (f : Feeding) (g : List ℕ) (places : List UnitPlace) (before : List Reading) : Type 0 where
   pub read : reader.HasRead f.reader g places
   pub readings : read_on R [] (units_at (seen_of g) places) ≡ all_read before
@@ -65,7 +65,7 @@ pub record HasFed (R : Readers) (f : Feeding) (g : List ℕ) (places : List Unit
   pub count : f.units ≡ length places
   pub going : f.first ≡ None
 
--- how many of the bytes that were read stand behind the last unit taken; a unit that is taken leaves fewer
+-- How many of the bytes that were read stand after the last unit taken; a unit that is taken leaves fewer.
 abbrev pub left_to_take : Feeding → ℕ
 left_to_take f = ahead f.reader.splitter
 
@@ -73,50 +73,50 @@ abbrev pub Lowers : Option Taken → ℕ → ℕ → Type 0
 Lowers (Some (Nal header place bytes what)) old new = new < old
 Lowers _ old new = new ≤ old
 
--- how many bytes of its source it holds: those behind the last unit taken, and those of the picture that was begun last
+-- How many bytes of its source it holds: those after the last unit taken, and those of the picture that was begun last.
 abbrev pub bytes_held : Feeding → ℕ
 bytes_held f = held f.reader.splitter + length f.assembler.state.picture.bytes
 
--- the most bytes that a feed holds: a picture, a unit that isn't whole, and what a read appends to it (our own limits)
+-- The most bytes that a feed holds: a picture, a unit that isn't whole, and what a read appends to it (our own limits).
 abbrev pub most_held : ℕ
 most_held = picture_limit + unit_limit + 65538
 
--- a unit that is taken is one more
+-- A unit that is taken is one more.
 abbrev pub Counts : Taken → ℕ → ℕ → Type 0
 Counts (Nal header place bytes what) old new = new ≡ old + 1
 Counts End old new = Unit {0}
 
 -- ---- what stands behind the units
 
--- a unit follows that is refused behind those before it
+-- A unit follows that is refused after those before it.
 pub record UnitIsRefused (R : Readers) (f : reader.Reading) (g : List ℕ) (places : List UnitPlace) (before : List Reading) (r : Refusal)
     : Type 0 where
   pub unit : UnitPlace
   pub follows : FollowsFrom (seen_of g) (is_all f.splitter) 0 (places ++ unit ∷ [])
   pub refused : reads R before (unit_bytes (seen_of g) unit) ≡ Err r
 
--- all units were taken, and the last picture lacks a slice
+-- All units were taken, and the last picture lacks a slice.
 pub record EndIsRefused (f : reader.Reading) (g : List ℕ) (places : List UnitPlace) (before : List Reading) (r : Refusal) : Type 0 where
   pub ended : f.closed ≡ Some closed.End
   pub stream : IsStream (seen_of g) true places None
   pub lacks : lacks_slice before ≡ Some r
 
--- what is read is refused for this behind these units: for its framing, or for more bytes than a source may have; for a unit; or at the
--- end
+-- What is read is refused for this after these units: for its framing, or for more bytes than a source may have; for a unit; or
+-- at the end.
 pub data IsRefusedFor (R : Readers) (f : reader.Reading) (g : List ℕ) (places : List UnitPlace) (before : List Reading) (r : Refusal)
     : Type 0 where
   by_bytes : reader.IsRefusedBy g places f r → IsRefusedFor R f g places before r
   by_unit : UnitIsRefused R f g places before r → IsRefusedFor R f g places before r
   at_end : EndIsRefused f g places before r → IsRefusedFor R f g places before r
 
--- the pictures of what is read are those of these units, and it ends behind them for this refusal
+-- The pictures of what is read are those of these units, and it ends after them for this refusal.
 abbrev pub EndsThere : Readers → reader.Reading → List ℕ → List UnitPlace → List Reading → Refusal → Type 0
 EndsThere R f g places before r =
     ArePictures R (seen_of g) (is_all f.splitter) (pictures before) (Some (record { units = length places; refusal = r }))
 
 -- ---- one unit
 
--- the header, the place, the length and the kind of the unit at a place, which was read as this behind those before it
+-- The header, the place, the length and the kind of the unit at a place, which was read as this after those before it.
 pub record IsTold (g : List ℕ) (u : UnitPlace) (r : Reading) (before : List Reading) (h : NalHeader) (place n : ℕ) (a : Accepted)
     : Type 0 where
   pub header : h ≡ header_of (unit_bytes (seen_of g) u)
@@ -150,7 +150,7 @@ pub data SeesRefused {V : Type 0} (sees : List Reading → List ℕ → V) (noth
       → SeesRefused sees nothing R f g places before r seen
   sees_at_end : EndIsRefused f g places before r → seen ≡ nothing → SeesRefused sees nothing R f g places before r seen
 
--- The next unit in what was read, as `Gives` has it, and what was seen: that unit behind those before it, or nothing.
+-- The next unit in what was read, as `Gives` has it, and what was seen: that unit after those before it, or nothing.
 abbrev pub GivesSeen : {V : Type 0} → (List Reading → List ℕ → V) → V → Readers → List ℕ → List UnitPlace → List Reading → Feeding
     → Result (Option Taken) FeedFault → V → Type 0
 GivesSeen sees nothing R g places before f (Ok (Some (Nal header place bytes what))) seen =
@@ -161,7 +161,7 @@ GivesSeen sees nothing R g places before f (Ok None) seen = seen ≡ nothing
 GivesSeen sees nothing R g places before f (Err (faults.Refused r)) seen = SeesRefused sees nothing R f.reader g places before r seen
 GivesSeen sees nothing R g places before f (Err fault) seen = Unit {0}
 
--- what was told of the unit that was taken is what the assembler told last
+-- What was told of the unit that was taken is what the assembler told last.
 abbrev pub IsToldBy : Held → Option Taken → Type 0
 IsToldBy h (Some (Nal header place bytes what)) = told h ≡ what
 IsToldBy h _ = Unit {0}
@@ -179,13 +179,14 @@ ReadsOn R g places before new left left' faults faults' (Err read_faults.SourceF
 
 -- ---- reads as they are needed
 
--- the source has given fewer bytes past the place where the unit's end is seen than a read asks for
+-- The source has given fewer bytes past the place where the unit's end is seen than a read asks for.
 abbrev pub IsNear : List ℕ → Taken → Type 0
 IsNear g (Nal header place bytes what) = length g < place + bytes + 3 + 65536
 IsNear g End = Unit {0}
 
--- The next unit of a source with these bytes left and this count of faults, before and after it: a piece is read behind g, by reads that
--- were needed, and then a unit is taken, or the end, or why there is none. At a failed read no further picture is seen in what was read.
+-- The next unit of a source with these bytes left and this count of faults, before and after it: a piece is read after g, by
+-- reads that were needed, and then a unit is taken, or the end, or why there is none. At a failed read no further picture is
+-- seen in what was read.
 abbrev pub TakesBehind : Readers → List ℕ → List UnitPlace → List Reading → Feeding → ℕ → ℕ → Result Taken FeedFault → Type 0
 TakesBehind R g places before new count count' (Ok taken) =
     (count' ≡ count) × reader.LastWasNeeded g places × IsNear g taken × Gives R g places before new (Ok (Some taken))
@@ -201,13 +202,14 @@ pub record Takes (R : Readers) (g : List ℕ) (places : List UnitPlace) (before 
 
 -- ---- pictures
 
--- Behind the units at these places, read as these, more were taken: at later places, read as `readings`, the latest first.
+-- After the units at these places, read as these, more were taken: at later places, read as `readings`, the latest first.
 pub record HasGone (R : Readers) (f : Feeding) (g : List ℕ) (places : List UnitPlace) (before readings : List Reading) : Type 0 where
   pub later : List UnitPlace
   pub fed : HasFed R f g (places ++ later) (readings ++ before)
   pub needed : reader.LastWasNeeded g (places ++ later)
 
--- Behind the units at these places, read as these, more were taken, which complete no picture; and what follows is refused for this.
+-- After the units at these places, read as these, more were taken, which complete no picture; and what follows is refused for
+-- this.
 pub record IsStopped (R : Readers) (f : Feeding) (g : List ℕ) (places : List UnitPlace) (before : List Reading) (r : Refusal) : Type 0 where
   pub later : List UnitPlace
   pub readings : List Reading
@@ -218,8 +220,8 @@ pub record IsStopped (R : Readers) (f : Feeding) (g : List ℕ) (places : List U
   pub more : List UnitPlace
   pub read : reader.HasRead f.reader g ((places ++ later) ++ more)
 
--- Behind the units at these places, read as these, more were taken, which complete no picture: they stand in a piece of the source, of
--- which a further one may have been read behind it.
+-- After the units at these places, read as these, more were taken, which complete no picture: they stand in a piece of the
+-- source, of which a further one may have been read after it.
 pub record CompletesNone (R : Readers) (g : List ℕ) (places : List UnitPlace) (before : List Reading) (f : Feeding)
     (left left' : Option (List ℕ)) : Type 0 where
   pub piece : List ℕ
@@ -231,7 +233,7 @@ pub record CompletesNone (R : Readers) (g : List ℕ) (places : List UnitPlace) 
   pub were : read_on R [] (units_at (seen_of (g ++ piece)) (places ++ later)) ≡ all_read (readings ++ before)
   pub count : f.units ≡ length (places ++ later)
 
--- the source has given fewer bytes past the place where the end of the last of these units is seen than a read asks for
+-- The source has given fewer bytes past the place where the end of the last of these units is seen than a read asks for.
 abbrev pub IsNearEnd : List ℕ → List UnitPlace → Type 0
 IsNearEnd g places = length g < end_of 0 places + 3 + 65536
 

@@ -1,5 +1,5 @@
--- The fields that a unit spells behind those before it, in the order of the bits: all, or those before the first that is refused.
--- The structure is read wherever it stands: the rules on the order of units don't take its fields away. Our own.
+-- The fields that a unit spells after those before it, in the order of the bits: all, or those before the first that is
+-- refused. The structure is read wherever it stands: the rules on the order of units don't take its fields away. Our own.
 use Rattle.std.specs.Prelude.{ℕ, ◌==◌, not, pos, Bool, true, false, cond, List, ◌∷◌, Option, Some, None, Result, Ok, Err}
 use Rattle.vx_bits.specs.declared.list.Item.{Item}
 use Rattle.vx_bits.specs.declared.refusal.Refusal.{Refusal}
@@ -34,18 +34,18 @@ abbrev pub items_at : {A : Type 0} (form : Form A) (place : Place) (answer : Res
 items_at form place (Ok items) answers = items
 items_at form place (Err r) refused = items_along form refused.values
 
--- up to ph_pic_parameter_set_id
+-- Up to ph_pic_parameter_set_id.
 abbrev pub items_to_id : (inside : Bool) (rbsp : List ℕ) (answer : Result ℕ Refusal) → IsReferredPps inside rbsp answer → List Item
 items_to_id inside rbsp (Ok id) refers = refers.0
 items_to_id inside rbsp (Err r) refused = items_along pps_id_form refused.values
 
--- of a slice header, with those of the picture header inside
+-- Of a slice header, with those of the picture header inside.
 abbrev pub items_of_slice : (nal_type : ℕ) (b : Begun) (u : List ℕ) (answer : Result SliceHeader Refusal) → IsSliceAnswer nal_type b u answer
     → List Item
 items_of_slice nal_type b u (Ok header) slice = items_along (slice_form (at_slice_of nal_type b)) (values_of slice.begins.fields)
 items_of_slice nal_type b u (Err r) refused = items_along (slice_form (at_slice_of nal_type b)) refused.values
 
--- sh_picture_header_in_slice_header_flag, where the picture header stands inside
+-- sh_picture_header_in_slice_header_flag, where the picture header is inside.
 abbrev pub inside_item : Item
 inside_item = record { field = sh_picture_header_in_slice_header_flag; value = pos 1 }
 
@@ -66,7 +66,7 @@ module _ (R : Readers) (h : AreOfH266 R) where
       let fields = aps.fields_in rbsp (R.aps rbsp) (h.aps rbsp) in
       record { structure = Some structures.Aps; items = fields.items; body = fields.body }
 
-  -- of a picture header under two sets
+  -- Of a picture header under two sets.
   abbrev pub header_items : Bool → List ℕ → List Item → List Item → List Item
   header_items inside rbsp sps pps =
       items_at (form_in inside (in_sets.structures sps) (in_sets.in_force sps pps)) (header_place inside rbsp) (R.header inside sps pps rbsp)
@@ -75,7 +75,7 @@ module _ (R : Readers) (h : AreOfH266 R) where
   abbrev pub id_items : Bool → List ℕ → List Item
   id_items inside rbsp = items_to_id inside rbsp (R.referred_pps inside rbsp) (h.referred_pps inside rbsp)
 
-  -- of one under those that it refers to; where one of them isn't stored, these items up to the id
+  -- Of one under those that it refers to; where one of them isn't stored, these items up to the id.
   abbrev pub under_sps : Bool → List ℕ → List Item → List Item → Option (List Item) → List Item
   under_sps inside rbsp to_id pps None = to_id
   under_sps inside rbsp to_id pps (Some sps) = header_items inside rbsp sps pps
@@ -91,16 +91,16 @@ module _ (R : Readers) (h : AreOfH266 R) where
   abbrev pub picture_header_items : Bool → List ℕ → List Reading → List Item
   picture_header_items inside rbsp before = under_id inside rbsp (id_items inside rbsp) before (R.referred_pps inside rbsp)
 
-  -- of a slice, by the type of the first slice of the picture
+  -- Of a slice, by the type of the first slice of the picture.
   abbrev pub slice_items : ℕ → Begun → List ℕ → List Item
   slice_items nal_type b u = items_of_slice nal_type b u (R.slice nal_type b u) (h.slice nal_type b u)
 
-  -- of one with the picture header inside: under that, or no further than that goes
+  -- Of one with the picture header inside: under that, or no further than that goes.
   abbrev pub alone_items : List Reading → List ℕ → Result Begun Refusal → List Item
   alone_items before u (Ok b) = slice_items (nal_unit_type u) b u
   alone_items before u (Err r) = inside_item ∷ picture_header_items true (rbsp_of u) before
 
-  -- of one whose picture header came before it; none without such a picture
+  -- Of one whose picture header came before it; none without such a picture.
   abbrev pub following_fields : Current → List ℕ → StructureFields
   following_fields nothing u = no_fields
   following_fields (headed b) u = fields_of structures.SliceHeader (slice_items (nal_unit_type u) b u)
@@ -111,7 +111,7 @@ module _ (R : Readers) (h : AreOfH266 R) where
       cond (has_header_inside u) (fields_of structures.SliceHeader (alone_items before u (begins R before u None)))
       (following_fields (current before) u)
 
-  -- by its type
+  -- By its type.
   abbrev pub fields_as : Class → List Reading → List ℕ → StructureFields
   fields_as vps_unit before u = fields_of structures.Vps (vps_items (rbsp_of u))
   fields_as sps_unit before u = fields_of structures.Sps (sps_items (rbsp_of u))
@@ -124,7 +124,7 @@ module _ (R : Readers) (h : AreOfH266 R) where
   fields_as end_unit before u = no_fields
   fields_as sei_unit before u = no_fields
 
-  -- of a unit of the base layer, unless its reserved bit is 1
+  -- Of a unit of the base layer, unless its reserved bit is 1.
   abbrev pub unit_fields : List Reading → List ℕ → StructureFields
   unit_fields before u =
       cond (is_reserved u) no_fields (cond (not (nuh_layer_id u == 0)) no_fields (fields_as (class_of (nal_unit_type u)) before u))

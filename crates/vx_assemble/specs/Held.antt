@@ -22,29 +22,29 @@ use Rattle.vx_assemble.specs.inner.Held.{IsHeld}
 use Rattle.vx_assemble.specs.inner.Lent.{parts_in}
 pub use Rattle.vx_assemble.specs.inner.Held.{Held, aps_items}
 
--- what was told of the last unit that was handed in; nothing of one that wasn't taken
+-- What was told of the last unit that was handed in; nothing of one that wasn't taken.
 abbrev pub told : Held → Accepted
 told h = h.told
 
--- it holds a picture: the last unit was the last slice of one
+-- It holds a picture: the last unit was the last slice of one.
 abbrev pub HasPicture : Held → Type 0
 HasPicture h = told h ≡ accepted.PictureDone
 
--- that picture, as its callers see it
+-- That picture, as its callers see it.
 abbrev pub lent_by : Held → Parts
 lent_by h = parts_in h.state.picture
 
--- what first kept a unit from being taken
+-- What first kept a unit from being taken.
 abbrev pub first_fault : Held → Option First
 first_fault h = h.first
 
--- what an answer says of that
+-- What an answer says of that.
 abbrev pub first_of : AssembleFault → First
 first_of faults.Memory = firsts.Memory
 first_of (faults.Refused r) = firsts.Refused r
 first_of (faults.Stopped f) = f
 
--- what is told of the latest unit
+-- What is told of the latest unit.
 abbrev pub last_told : List Reading → Accepted
 last_told [] = accepted.Nothing
 last_told (r ∷ before) = told_of r before
@@ -55,14 +55,14 @@ pub record Stands (h : Held) (before : List Reading) : Type 0 where
   pub told : told h ≡ last_told before
   pub first : first_fault h ≡ None
 
--- The unit was read so behind those before it, and taken.
+-- The unit was read so after those before it, and taken.
 pub record Took (answer : Result Reading Refusal) (before : List Reading) (new : Held) (what : Accepted) : Type 0 where
   pub reading : Reading
   pub reads : answer ≡ Ok reading
   pub stands : Stands new (reading ∷ before)
   pub told : what ≡ told_of reading before
 
--- The answer of a call that takes a unit behind these, and what is held then.
+-- The answer of a call that takes a unit after these, and what is held then.
 abbrev pub Takes : Result Reading Refusal → List Reading → Held → Result Accepted AssembleFault → Type 0
 Takes answer before new (Ok what) = Took answer before new what
 Takes answer before new (Err faults.Memory) = Unit {0}
@@ -76,7 +76,7 @@ Ends before (Err faults.Memory) = ⊥
 Ends before (Err (faults.Refused r)) = lacks_slice before ≡ Some r
 Ends before (Err (faults.Stopped f)) = ⊥
 
--- a set
+-- A set.
 abbrev pub IsSet : Accepted → Type 0
 IsSet accepted.Nothing = ⊥
 IsSet accepted.PictureDone = ⊥
@@ -95,7 +95,7 @@ abbrev pub ShowsLatest : Parts → List Picture → Type 0
 ShowsLatest parts [] = ⊥
 ShowsLatest parts (p ∷ earlier) = ShowsPicture parts p
 
--- how many of these adaptation parameter sets are of a type
+-- How many of these adaptation parameter sets are of a type.
 abbrev pub count_of : ℕ → List (Option Aps) → ℕ
 count_of kind sets = count_by is_some (map (aps_at sets kind) (range_with_len 0 id_count))
 

@@ -18,15 +18,15 @@ use Rattle.vx_assemble.specs.declared.feed.Step.TheVariants.{Picture as ToPictur
 use Rattle.vx_assemble.specs.Held.{lent_by}
 use Rattle.vx_assemble.specs.Feed.{Feeding, seen_of, HasFed}
 
--- why no more is read of a source that gave so many bytes: they are all there are, or more than may be looked at
+-- Why no more is read of a source that gave so many bytes: they are all there are, or more than may be looked at.
 abbrev pub closed_at : ℕ → Closed
 closed_at n = cond (nat_le n (2 ^ 40)) closed.End closed.TooLong
 
--- its source, of which so many bytes were given at once
+-- Its source, of which so many bytes were given at once.
 abbrev pub given : Splitting → ℕ → reader.Reading
 given h n = record { splitter = h; taken = n; closed = Some (closed_at n) }
 
--- these are pictures of the bytes, and those that it came to
+-- These are pictures of the bytes, and those that it came to.
 pub record HasSeen (R : Readers) (f : Feeding) (bytes : List ℕ) (ps : List Picture) : Type 0 where
   pub front : List ℕ
   pub places : List UnitPlace
@@ -36,9 +36,9 @@ pub record HasSeen (R : Readers) (f : Feeding) (bytes : List ℕ) (ps : List Pic
   pub all : is_all f.reader.splitter ≡ nat_le (length bytes) source_limit
   pub done : pictures before ≡ ps
 
--- It went on in bytes that have the pictures qs and this ending, the latest picture first, behind ps: to their next picture, which it
--- lends; or to their end, which comes behind all of them; or it was refused, behind all of them, for what ends them. For want of memory
--- nothing is said.
+-- It went on in bytes that have the pictures qs and this ending, the latest picture first, after ps: to their next picture,
+-- which it lends; or to their end, which comes after all of them; or it was refused, after all of them, for what ends them. for
+-- lack of memory nothing is said.
 abbrev pub Sees : Readers → List ℕ → List Picture → Option Ending → List Picture → Feeding → Result Step AssembleFault → Type 0
 Sees R bytes qs ending ps new (Ok ToPicture) =
     (p : Picture) × HasSeen R new bytes (p ∷ ps) × ((later : List Picture) × (qs ≡ later ++ p ∷ ps)) × (lent_by new.assembler ≡ parts_of p)

@@ -1,4 +1,4 @@
--- What serves bodies and proofs alone.
+-- Definitions that only bodies and proofs use: no caller has to believe them.
 pub mod Held
 pub mod Order
 pub mod Stored

@@ -7,51 +7,51 @@ use Rattle.vx_fit.specs.declared.placed.Placed.{Placed}
 use Rattle.vx_layout.specs.declared.rect.Rect.{Rect}
 use Rattle.vx_layout.specs.Rects.{Precedes}
 
--- whether the region covers the position in column x and row y (our own)
+-- Whether the region covers the position in column x and row y (our own).
 unfoldable pub covers : Placed → ℕ → ℕ → Bool
 covers p x y = (nat_le p.x x && nat_lt x (p.x + p.w)) && (nat_le p.y y && nat_lt y (p.y + p.h))
 
--- the greatest number that f gives of the regions, and 0 where there are none (our own)
+-- The greatest number that f gives of the regions, and 0 where there are none (our own).
 abbrev pub greatest_by : (Placed → ℕ) → List Placed → ℕ
 greatest_by f [] = 0
 greatest_by f (p ∷ ps) = max (f p) (greatest_by f ps)
 
--- the frame's size in luma samples: it reaches as far right and as far down as a region does (our own)
+-- The frame's size in luma samples: it reaches as far right and as far down as a region does (our own).
 abbrev pub frame_width : List Placed → ℕ
 frame_width placed = greatest_by (λ p. p.x + p.w) placed
 
 abbrev pub frame_height : List Placed → ℕ
 frame_height placed = greatest_by (λ p. p.y + p.h) placed
 
--- the greatest width and height of a frame (our own limit)
+-- The greatest width and height of a frame (our own limit).
 abbrev pub greatest_size : ℕ
 greatest_size = 16384
 
 abbrev pub IsTooLarge : List Placed → Type 0
 IsTooLarge placed = (greatest_size < frame_width placed) ⊎ (greatest_size < frame_height placed)
 
--- the corner stands on the grid of CTUs of `ctb` times `ctb` samples (sps_subpic_ctu_top_left_x and _y, 7.4.3.4)
+-- The corner stands on the grid of CTUs of `ctb` times `ctb` samples (sps_subpic_ctu_top_left_x and _y, 7.4.3.4).
 abbrev pub IsOnGrid : ℕ → Placed → Type 0
 IsOnGrid ctb p = (p.x % ctb ≡ 0) × (p.y % ctb ≡ 0)
 
--- both regions cover a position (6.3.1)
+-- Both regions cover a position (6.3.1).
 abbrev pub Overlap : Placed → Placed → Type 0
 Overlap p q = (x y : ℕ) × (covers p x y ≡ true) × (covers q x y ≡ true)
 
--- some region covers the position (6.3.1)
+-- Some region covers the position (6.3.1).
 abbrev pub IsCovered : List Placed → ℕ → ℕ → Type 0
 IsCovered placed x y = Any (λ p. covers p x y ≡ true) placed
 
--- each position of the frame is covered (6.3.1)
+-- Each position of the frame is covered (6.3.1).
 abbrev pub IsFilled : List Placed → Type 0
 IsFilled placed = (x y : ℕ) → x < frame_width placed → y < frame_height placed → IsCovered placed x y
 
--- the CTUs of a region, a last one that is cut off counted whole (7.4.3.4)
+-- The CTUs of a region, a last one that is cut off counted whole (7.4.3.4).
 abbrev pub in_ctus : ℕ → Placed → Rect
 in_ctus ctb p = record { x = p.x / ctb; y = p.y / ctb; w = div_ceil p.w ctb; h = div_ceil p.h ctb }
 
--- the regions make up a frame that isn't too large: they stand on the grid, don't overlap and fill it, and no CTU of one
--- has its left or upper neighbour in a later one
+-- The regions make up a frame that isn't too large: they stand on the grid, don't overlap and fill it, and no CTU of one has
+-- its left or upper neighbour in a later one.
 pub record FitTogether (placed : List Placed) (ctb : ℕ) : Type 0 where
   pub small : ¬ IsTooLarge placed
   pub grid : All (IsOnGrid ctb) placed
@@ -59,7 +59,7 @@ pub record FitTogether (placed : List Placed) (ctb : ℕ) : Type 0 where
   pub filled : IsFilled placed
   pub order : AllPairs Precedes (map (in_ctus ctb) placed)
 
--- numbers that a region may have
+-- Numbers that a region may have.
 pub record IsInRange (p : Placed) : Type 0 where
   pub left : p.x ≤ greatest_size
   pub top : p.y ≤ greatest_size

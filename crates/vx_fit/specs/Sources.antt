@@ -9,14 +9,14 @@ use Rattle.vx_layout.specs.Shapes.{AreListable}
 use Rattle.vx_fit.specs.declared.placed.Placed.{Placed}
 use Rattle.vx_fit.specs.Placing.{FitTogether, in_ctus}
 
--- tile bounds of the region's size, which holds a CTU
+-- Tile bounds of the region's size, which holds a CTU.
 pub record IsSized (s : Rect) (p : Numbers) : Type 0 where
   pub columns : Rises p.columns
   pub rows : Rises p.rows
   pub wide : (0 < s.w) × (last p.columns ≡ s.w)
   pub high : (0 < s.h) × (last p.rows ≡ s.h)
 
--- a layout of one subpicture and of the region's size, whose slices can be listed tile by tile
+-- A layout of one subpicture and of the region's size, whose slices can be listed tile by tile.
 pub record IsSource (s : Rect) (p : Numbers) : Type 0 where
   pub layout : HasLayout p
   pub lone : length p.subpics ≡ 1
@@ -24,7 +24,7 @@ pub record IsSource (s : Rect) (p : Numbers) : Type 0 where
   pub wide : width p ≡ s.w
   pub high : height p ≡ s.h
 
--- the CTUs of regions that fit together
+-- The CTUs of regions that fit together.
 pub record IsFitted (corners : List Rect) : Type 0 where
   pub placed : List Placed
   pub ctb : ℕ

@@ -9,7 +9,7 @@ use Rattle.vx_layout.specs.declared.rect.Rect.{Rect}
 use Rattle.vx_layout.specs.Bounds.{last}
 use Rattle.vx_layout.specs.Rects.{CoversOnce, IsPart, Precedes, fits, holds, in_order}
 
--- the numbers of the faults (our own)
+-- The numbers of the faults (our own).
 abbrev pub subpics_fault : ℕ
 subpics_fault = 3
 
@@ -25,71 +25,72 @@ slice_split_fault = 6
 abbrev pub order_fault : ℕ
 order_fault = 7
 
--- the picture's size in CTUs (our own)
+-- The picture's size in CTUs (our own).
 abbrev pub width : Numbers → ℕ
 width n = last n.columns
 
 abbrev pub height : Numbers → ℕ
 height n = last n.rows
 
--- no subpics_fault: each subpicture is a part of the picture, and each CTU lies in exactly one (6.3.1)
+-- No subpics_fault: each subpicture is a part of the picture, and each CTU lies in exactly one (6.3.1).
 pub record SubpicsCover (n : Numbers) : Type 0 where
   pub parts : All (IsPart (width n) (height n)) n.subpics
   pub once : CoversOnce n.subpics (width n) (height n)
 
--- no bound stands strictly between a and b (our own)
+-- No bound stands strictly between a and b (our own).
 abbrev pub NoneBetween : List ℕ → ℕ → ℕ → Type 0
 NoneBetween bounds a b = (c : ℕ) → Contains bounds c → a < c → b ≤ c
 
--- a tile column, or a tile row, goes from the bound a to the next bound, b (6.3.1)
+-- A tile column, or a tile row, goes from the bound a to the next bound, b (6.3.1).
 pub record IsSpan (bounds : List ℕ) (a b : ℕ) : Type 0 where
   pub begins : Contains bounds a
   pub ends : Contains bounds b
   pub rises : a < b
   pub next : NoneBetween bounds a b
 
--- a tile: a tile column in a tile row (6.3.1)
+-- A tile: a tile column in a tile row (6.3.1).
 pub record IsTile (columns rows : List ℕ) (t : Rect) : Type 0 where
   pub across : IsSpan columns t.x (t.x + t.w)
   pub down : IsSpan rows t.y (t.y + t.h)
 
--- the rectangles share a CTU (our own)
+-- The rectangles share a CTU (our own).
 abbrev pub Meet : Rect → Rect → Type 0
 Meet r s = (x y : ℕ) × (holds r x y ≡ true) × (holds s x y ≡ true)
 
--- each CTU of r lies in s (our own)
+-- Each CTU of r lies in s (our own).
 abbrev pub LiesIn : Rect → Rect → Type 0
 LiesIn r s = (x y : ℕ) → holds r x y ≡ true → holds s x y ≡ true
 
--- the same left and right borders (our own)
+-- The same left and right borders (our own).
 abbrev pub SameSides : Rect → Rect → Type 0
 SameSides r s = (r.x ≡ s.x) × (r.x + r.w ≡ s.x + s.w)
 
--- where the tile t shares a CTU with the subpicture s, it lies in it, or holds it between the tile's own left and right borders (6.3.1)
+-- Where the tile t shares a CTU with the subpicture s, it lies in it, or holds it between the tile's own left and right borders
+-- (6.3.1).
 abbrev pub TileAgrees : Rect → Rect → Type 0
 TileAgrees t s = Meet t s → LiesIn t s ⊎ (LiesIn s t × SameSides s t)
 
--- each tile does so (6.3.1)
+-- Each tile does so (6.3.1).
 abbrev pub SplitsWell : List ℕ → List ℕ → Rect → Type 0
 SplitsWell columns rows s = (t : Rect) → IsTile columns rows t → TileAgrees t s
 
--- no tile_split_fault: each subpicture splits the tiles well (6.3.1)
+-- No tile_split_fault: each subpicture splits the tiles well (6.3.1).
 abbrev pub TilesSplit : Numbers → Type 0
 TilesSplit n = All (SplitsWell n.columns n.rows) n.subpics
 
--- no slice_cover_fault: each CTU lies in exactly one slice (6.3.1)
+-- No slice_cover_fault: each CTU lies in exactly one slice (6.3.1).
 abbrev pub SlicesCover : Numbers → Type 0
 SlicesCover n = CoversOnce n.slices (width n) (height n)
 
--- no slice_split_fault: each slice lies in one subpicture (6.3.1)
+-- No slice_split_fault: each slice lies in one subpicture (6.3.1).
 abbrev pub SlicesFit : Numbers → Type 0
 SlicesFit n = All (λ r. Any (λ s. fits r s ≡ true) n.subpics) n.slices
 
--- no order_fault: no CTU has its left or upper neighbour in a later slice (7.4.8, sh_slice_address)
+-- No order_fault: no CTU has its left or upper neighbour in a later slice (7.4.8, sh_slice_address).
 abbrev pub SlicesInOrder : Numbers → Type 0
 SlicesInOrder n = AllPairs Precedes (in_order n.slices n.subpics)
 
--- none of the faults (6.3.1, 7.4.8)
+-- None of the faults (6.3.1, 7.4.8).
 pub record IsLayout (n : Numbers) : Type 0 where
   pub subpics : SubpicsCover n
   pub tiles : TilesSplit n
@@ -97,7 +98,7 @@ pub record IsLayout (n : Numbers) : Type 0 where
   pub split : SlicesFit n
   pub order : SlicesInOrder n
 
--- k is the lowest fault (our own)
+-- k is the lowest fault (our own).
 pub record IsLowestFault (n : Numbers) (k : ℕ) : Type 0 where
   pub from : subpics_fault ≤ k
   pub upto : k ≤ order_fault
@@ -111,12 +112,12 @@ pub record IsLowestFault (n : Numbers) (k : ℕ) : Type 0 where
   pub keeps_split : slice_split_fault < k → SlicesFit n
   pub breaks_order : k ≡ order_fault → ¬ SlicesInOrder n
 
--- P holds of the number of a fault
+-- P holds of the number of a fault.
 abbrev pub IfFault : LayoutError → (ℕ → Type 0) → Type 0
 IfFault Memory P = Unit {0}
 IfFault (Fault k) P = P k
 
--- numbers within the limits of a picture
+-- Numbers within the limits of a picture.
 pub record IsInLimits (n : Numbers) : Type 0 where
   pub columns : (2 ≤ length n.columns) × (width n ≤ 512)
   pub rows : (2 ≤ length n.rows) × (height n ≤ 512)

@@ -1,5 +1,5 @@
--- A frame that is put together of pictures: each stands in a region, a rectangle of the frame, and its slices are moved
--- to the region's corner. The regions are the frame's subpictures. Our own.
+-- A frame that is composed of pictures: each stands in a region, a rectangle of the frame, and its slices are moved to the
+-- region's corner. The regions are the frame's subpictures. Our own.
 use Rattle.std.specs.Prelude.{◌≡◌, ℕ, List, [], ◌∷◌, All, length, map}
 use Rattle.std.specs.List.{flat_map, zip}
 use Rattle.vx_layout.specs.declared.numbers.Numbers.{Numbers}
@@ -11,18 +11,18 @@ use Rattle.vx_layout.specs.Rects.{CoversOnce, IsPart, whole_picture}
 use Rattle.vx_layout.specs.Regions.{moved_to}
 use Rattle.vx_layout.specs.Shapes.{HasCtu}
 
--- the slices of a frame: those of the picture in each region, moved to its corner, in the order of the regions
+-- The slices of a frame: those of the picture in each region, moved to its corner, in the order of the regions.
 abbrev pub frame_slices : List Rect → List (List Rect) → List Rect
 frame_slices regions pictures = flat_map (λ p. map (moved_to p.0) p.1) (zip regions pictures)
 
--- slices that hold CTUs and make up a picture of the region's size
+-- Slices that hold CTUs and make up a picture of the region's size.
 pub record Fills (region : Rect) (slices : List Rect) : Type 0 where
   pub parts : All (IsPart region.w region.h) slices
   pub once : CoversOnce slices region.w region.h
 
--- a picture that can stand in a region of a frame of these tile bounds: it has one subpicture and the region's size,
--- each of its slices holds a CTU, strictly inside the region the frame's bounds are its own, and the region's borders
--- split the frame's tiles well
+-- A picture that can stand in a region of a frame of these tile bounds: it has one subpicture and the region's size, each of
+-- its slices holds a CTU, strictly inside the region the frame's bounds are its own, and the region's borders split the frame's
+-- tiles well.
 pub record IsPlaced (columns rows : List ℕ) (region : Rect) (picture : Numbers) : Type 0 where
   pub layout : HasLayout picture
   pub lone : length picture.subpics ≡ 1
@@ -33,7 +33,7 @@ pub record IsPlaced (columns rows : List ℕ) (region : Rect) (picture : Numbers
   pub down : SameInside rows region.y picture.rows
   pub borders : SplitsAtLines columns rows region
 
--- the frame of these tile bounds with these pictures in its regions
+-- The frame of these tile bounds with these pictures in its regions.
 abbrev pub frame_of : List ℕ → List ℕ → List Rect → List Numbers → Numbers
 frame_of columns rows regions pictures = record {
   columns = columns;
@@ -42,7 +42,7 @@ frame_of columns rows regions pictures = record {
   subpics = regions;
 }
 
--- a picture, as one subpicture that is all of it
+-- A picture, as one subpicture that is all of it.
 abbrev pub with_one_subpic : Numbers → Numbers
 with_one_subpic n = record {
   columns = n.columns;

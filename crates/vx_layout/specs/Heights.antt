@@ -2,11 +2,11 @@
 use Rattle.std.specs.Prelude.{ℕ, ◌-◌, nat_le, cond, List, length, take}
 use Rattle.vx_layout.specs.Bounds.{last}
 
--- heights without the last (our own)
+-- Heights without the last (our own).
 abbrev pub all_but_last : List ℕ → List ℕ
 all_but_last heights = take (length heights - 1) heights
 
--- all but the last where the last isn't higher than the one before it, else all;
--- `tile_sizes` of them and the tile's height are then the heights again (6.5.1, SliceHeightInCtus)
+-- All but the last where the last isn't higher than the one before it, else all; `tile_sizes` of them and the tile's height are
+-- then the heights again (6.5.1, SliceHeightInCtus).
 abbrev pub written_heights : List ℕ → List ℕ
 written_heights heights = cond (nat_le (last heights) (last (all_but_last heights))) (all_but_last heights) heights

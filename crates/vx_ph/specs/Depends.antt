@@ -29,32 +29,32 @@ use Rattle.vx_ph.specs.Header.{ph_before_lists, middle, back, header_form}
 
 -- ---- fields
 
--- the tables of reference picture lists, and all of a header
+-- The tables of reference picture lists, and all of a header.
 abbrev pub lists_tables : List Section
 lists_tables = always BEFORE_LIST_0 ∷ always CHOICE ∷ (own_and_long_term ++ (always BEHIND_LIST_0 ∷ always BEHIND_LIST_1 ∷ []))
 
 abbrev pub ph_tables : List Section
 ph_tables = ph_before_lists ++ (lists_tables ++ (middle ++ (weights ++ back)))
 
--- the kept fields: those without a star
+-- The kept fields: those without a star.
 abbrev pub kept_ph_fields : List ℕ
 kept_ph_fields = unstarred ph_tables
 
--- all that a header has, and what its rows name besides
+-- All that a header has, and what its rows name besides.
 abbrev pub of_header : List ℕ
 of_header = named_by_all ph_before_lists ++ (named_by_all middle ++ (named_by_all back ++ (fields_behind_lists ++ named_by_all weights)))
 
--- the fields with a star, and what is named for them alone
+-- The fields with a star, and what is named for them alone.
 abbrev pub starred : List ℕ
 starred = FILTER_SET ∷ STARRED
 
--- the others: the kept fields, with the names that their rows use
+-- The others: the kept fields, with the names that their rows use.
 abbrev pub kept_with_names : List ℕ
 kept_with_names = filter (λ n. not (has starred n)) of_header
 
 -- ---- what they depend on
 
--- of the sets in force kept fields depend on these, which are kept fields of the SPS and the PPS, and the number of extra bits,
+-- Of the sets in force kept fields depend on these, which are kept fields of the SPS and the PPS, and the number of extra bits,
 abbrev pub kept_of_sets : List ℕ
 kept_of_sets = sps.sps_chroma_format_idc ∷ sps.sps_log2_max_pic_order_cnt_lsb_minus4 ∷ sps.sps_poc_msb_cycle_flag
     ∷ sps.sps_poc_msb_cycle_len_minus1 ∷ EXTRA_PH_BITS ∷ sps.sps_partition_constraints_override_enabled_flag

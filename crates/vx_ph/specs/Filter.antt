@@ -1,4 +1,4 @@
--- The adaptive loop filter of a header, with other ids of its sets (H.266 7.3.7). Our own, but for what the fields name.
+-- The adaptive loop filter of a header, with other ids of its sets (H.266 7.3.7). Our own, except for what the fields name.
 use Rattle.std.specs.Prelude.{◌≡◌, ◌≤◌, ◌==◌, ℕ, pos, ◌<◌, cond, filter, true, List, [], ◌∷◌, length, map, slice_index}
 use Rattle.vx_bits.specs.declared.list.Item.{Item}
 use Rattle.vx_table.specs.Depends.{has}
@@ -13,15 +13,15 @@ use Rattle.vx_rpl.specs.declared.entry.RplTable.{RplTable}
 use Rattle.vx_ph.specs.declared.tables.TheConstants.{ALF}
 use Rattle.vx_ph.specs.Picture.{ArePictureHeaderFields}
 
--- the fields that name a set (7.3.7, 7.3.2.8)
+-- The fields that name a set (7.3.7, 7.3.2.8).
 abbrev pub set_ids : List ℕ
 set_ids = alf.alf_aps_id_luma ∷ alf.alf_aps_id_chroma ∷ alf.alf_cc_cb_aps_id ∷ alf.alf_cc_cr_aps_id ∷ []
 
--- the filter's items, of those of a header (our own)
+-- The filter's items, of those of a header (our own).
 abbrev pub filter_of : List Item → List Item
 filter_of items = shown_items alf.ALL items
 
--- with another id in place of each (our own)
+-- With another id in place of each (our own).
 abbrev pub with_ids : (ℕ → ℕ) → List Item → List Item
 with_ids ids items = map
     (λ item. cond (has set_ids item.field) (record { field = item.field; value = pos (ids (natural item.value)) }) item) items

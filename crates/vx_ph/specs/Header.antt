@@ -13,31 +13,32 @@ use Rattle.vx_rpl.specs.Lists.{lists_form, weights_form}
 use Rattle.vx_ph.specs.declared.tables.TheConstants.{PICTURE, PPS_ID, ORDER_COUNT, ALF, LMCS_AND_SCALING, OUTPUT}
 use Rattle.vx_ph.specs.declared.tables.TheConstants.{INTRA, INTER, QP, FILTERS}
 
--- before the lists: the filter where the SPS has it and the PPS says that it stands here (7.3.2.8)
+-- Before the lists: the filter where the SPS has it and the PPS says that it stands here (7.3.2.8).
 abbrev pub ph_before_lists : List Section
 ph_before_lists = always PICTURE ∷ always PPS_ID ∷ always ORDER_COUNT
     ∷ provided (Both (Latest sps_alf_enabled_flag) (Latest pps_alf_info_in_ph_flag)) ALF ∷ always LMCS_AND_SCALING ∷ always OUTPUT ∷ []
 
--- the lists, where the PPS says that they stand here (7.3.2.8, 7.3.9)
+-- The lists, where the PPS says that they stand here (7.3.2.8, 7.3.9).
 abbrev pub lists_if_present : RplTable → List ℕ → Form (List ℕ)
 lists_if_present table = present (When (Plain (Latest pps_rpl_info_in_ph_flag))) (lists_form table)
 
--- between lists and weights (7.3.2.8)
+-- Between lists and weights (7.3.2.8).
 abbrev pub middle : List Section
 middle = always INTRA ∷ always INTER ∷ []
 
--- prediction weights, where the header has them (7.3.2.8, 7.3.8)
+-- Prediction weights, where the header has them (7.3.2.8, 7.3.8).
 abbrev pub weights_if_present : List ℕ → Form (List ℕ)
 weights_if_present = present (When (Plain (Latest HAS_WEIGHTS))) weights_form
 
--- behind the weights (7.3.2.8)
+-- After the weights (7.3.2.8).
 abbrev pub back : List Section
 back = always QP ∷ always FILTERS ∷ []
 
--- all before the weights (7.3.2.8)
+-- All before the weights (7.3.2.8).
 unfoldable pub ph_before_weights : RplTable → List ℕ → Form (List ℕ)
 ph_before_weights table s = (sections_form ph_before_lists s >>= lists_if_present table) >>= sections_form middle
 
--- picture_header_structure( ), with the SPS's structures of lists, at a scope that has the numbers of the sets in force (7.3.2.8)
+-- picture_header_structure( ), with the SPS's structures of lists, at a scope that has the numbers of the sets in force
+-- (7.3.2.8).
 unfoldable pub header_form : RplTable → List ℕ → Form (List ℕ)
 header_form table s = (ph_before_weights table s >>= weights_if_present) >>= sections_form back

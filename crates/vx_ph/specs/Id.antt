@@ -15,7 +15,7 @@ use Rattle.vx_ph.specs.declared.tables.TheConstants.{PICTURE, PPS_ID}
 use Rattle.vx_ph.specs.Header.{header_form}
 use Rattle.vx_ph.specs.Picture.{IsPictureHeaderUnit}
 
--- a header up to the id (ph_pic_parameter_set_id, 7.3.2.8)
+-- A header up to the id (ph_pic_parameter_set_id, 7.3.2.8).
 abbrev pub to_id : List Section
 to_id = always PICTURE ∷ always PPS_ID ∷ []
 

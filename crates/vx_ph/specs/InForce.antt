@@ -10,7 +10,8 @@ use Rattle.vx_rpl.specs.declared.entry.RplTable.{RplTable}
 use Rattle.vx_rpl.specs.Resolved.{table_of}
 use Rattle.vx_sps.specs.Set.{extra_ph_bits_of, is_weighted}
 
--- the numbers of an SPS, which are below the first field of a PPS, those of a PPS from there on, and the number of extra bits (our own)
+-- The numbers of an SPS, which are below the first field of a PPS, those of a PPS from there on, and the number of extra bits
+-- (our own).
 unfoldable pub both_sets : List ℕ → List ℕ → ℕ → List ℕ
 both_sets sps pps extra = slice_set (joined pps_pic_parameter_set_id sps pps) EXTRA_PH_BITS extra
 
@@ -18,7 +19,7 @@ both_sets sps pps extra = slice_set (joined pps_pic_parameter_set_id sps pps) EX
 unfoldable pub in_force : List Item → List Item → List ℕ
 in_force sps pps = both_sets (loaded fresh sps) (loaded fresh pps) (extra_ph_bits_of sps)
 
--- the SPS's structures of reference picture lists (7.3.2.4)
+-- The SPS's structures of reference picture lists (7.3.2.4).
 abbrev pub structures : List Item → RplTable
 structures sps = table_of (is_weighted sps) sps
 

@@ -45,7 +45,7 @@ IsPictureHeaderFront table s header old new =
     (cell : Cell ℕ) × ((left : List Item)
     × HaltsAt (header_form table s) (bits_along (header_form table s) (length old)) old header.fields new left cell)
 
--- picture_header_rbsp( ) (7.3.2.7): the header, and a trailing
+-- picture_header_rbsp( ) (7.3.2.7): the header, and a trailing.
 unfoldable pub unit_form : RplTable → List ℕ → Form (List ℕ)
 unit_form table s = header_form table s >>= form_of TRAILING
 

@@ -1,4 +1,4 @@
--- The rewritten picture header: what it takes over from its source, and what it states (H.266 7.3.2.8).
+-- The rewritten picture header: what it copies from its source, and what it states (H.266 7.3.2.8).
 use Rattle.std.specs.Prelude.{◌≡◌, ℕ, ◌<◌, true, List, [], ◌∷◌, ◌++◌, Option, Some, None, IfSome}
 use Rattle.vx_bits.specs.declared.list.Item.{Item}
 use Rattle.vx_table.specs.Scope.{is_set, one_if}
@@ -27,29 +27,29 @@ use Rattle.vx_ph.specs.Picture.{IsHeader}
 
 -- ---- what is stated, in the order of the syntax (7.3.2.8; what is stated is our own choice)
 
--- luma mapping with chroma scaling, off or on: its set, and, where there is chroma, whether its residuals are scaled (7.3.2.8)
+-- Luma mapping with chroma scaling, off or on: its set, and, where there is chroma, whether its residuals are scaled (7.3.2.8).
 abbrev pub lmcs_said : (chroma : ℕ) → Option LmcsShape → List Item
 lmcs_said chroma None = item ph.ph_lmcs_enabled_flag 0 ∷ []
 lmcs_said chroma (Some lmcs) =
     item ph.ph_lmcs_enabled_flag 1 ∷ item ph.ph_lmcs_aps_id lmcs.id
     ∷ where_so (is_set chroma) (item ph.ph_chroma_residual_scale_flag (one_if lmcs.scales_chroma) ∷ [])
 
--- scaling lists, off or on: their set (7.3.2.8)
+-- Scaling lists, off or on: their set (7.3.2.8).
 abbrev pub scaling_said : Option ℕ → List Item
 scaling_said None = item ph.ph_explicit_scaling_list_enabled_flag 0 ∷ []
 scaling_said (Some id) = item ph.ph_explicit_scaling_list_enabled_flag 1 ∷ item ph.ph_scaling_list_aps_id id ∷ []
 
--- each where the SPS has it (7.3.2.8)
+-- Each where the SPS has it (7.3.2.8).
 abbrev pub map_items : List Item → PhShape → List Item
 map_items sps shape =
     where_so (is_set (number sps sps_fields.sps_lmcs_enabled_flag)) (lmcs_said (number sps sps_fields.sps_chroma_format_idc) shape.lmcs)
     ++ where_so (is_set (number sps sps_fields.sps_explicit_scaling_list_enabled_flag)) (scaling_said shape.scaling)
 
--- all that is stated: the PPS, and these; neither filter nor QP, which stand in slice headers (7.3.2.8)
+-- All that is stated: the PPS, and these; neither filter nor QP, which stand in slice headers (7.3.2.8).
 abbrev pub stated_ph_items : List Item → PhShape → List Item
 stated_ph_items sps shape = item ph.ph_pic_parameter_set_id shape.pps_id ∷ map_items sps shape
 
--- numbers that a header can have
+-- Numbers that a header can have.
 pub record IsShape (shape : PhShape) : Type 0 where
   pub pps_id : shape.pps_id < 64
   pub lmcs : IfSome shape.lmcs (λ lmcs. lmcs.id < 4)

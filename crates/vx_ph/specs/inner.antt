@@ -1,2 +1,2 @@
--- What serves bodies alone.
+-- Definitions that only bodies use: no caller has to believe them.
 pub mod Makes

@@ -1,3 +1,3 @@
--- Statements of laws, which are proved: nothing that a caller has to believe.
+-- Statements of laws, which are proved: no caller has to believe them.
 pub mod Enabled
 pub mod Sizes

@@ -6,17 +6,17 @@ use Rattle.vx_pic.specs.Sets.{max_lsb, lsb_of, msb_cycle, is_non_ref}
 use Rattle.vx_pic.specs.Readings.{Begun, Picture}
 use Rattle.vx_pic.specs.Counts.{fits_count, is_empty, begins_anew, kind_of, is_changed}
 
--- A picture of this kind comes next behind those before it, the latest first.
+-- A picture of this kind comes next after those before it, the latest first.
 pub record IsNext (earlier : List Picture) (b : Begun) (k : Kind) : Type 0 where
-  -- a sequence ended there only where there is one before
+  -- A sequence ended there only where there is one before.
   pub ends : k.after_eos ≡ true → is_empty earlier ≡ false
-  -- the kind, with the count, is that of its first slice
+  -- The kind, with the count, is that of its first slice.
   pub kind : k ≡ kind_of earlier k.after_eos b k.nal_type k.temporal_id
-  -- it is an IRAP or GDR picture where it begins anew
+  -- It is an IRAP or GDR picture where it begins anew.
   pub begins : begins_anew earlier k.after_eos ≡ true → is_irap_or_gdr k.nal_type ≡ true
-  -- its SPS is that of the picture before, unless it starts a coded layer video sequence
+  -- Its SPS is that of the picture before, unless it starts a coded layer video sequence.
   pub same : k.clvss ≡ false → is_changed earlier b.sps ≡ false
-  -- the count has 32 bits
+  -- The count has 32 bits.
   pub fits : fits_count k.poc ≡ true
 
 -- Headers that tell the same of counts.
@@ -26,15 +26,15 @@ pub record AlikeForCounts (a b : Begun) : Type 0 where
   pub non_ref : is_non_ref a.header ≡ is_non_ref b.header
   pub max : max_lsb a.sps ≡ max_lsb b.sps
 
--- pictures of the same kinds with such headers, each with its own
+-- Pictures of the same kinds with such headers, each with its own.
 abbrev pub AreAlike : List Picture → List Picture → Type 0
 AreAlike [] [] = Unit {0}
 AreAlike (p ∷ ps) (q ∷ qs) = (p.kind ≡ q.kind) × AlikeForCounts p.begun q.begun × AreAlike ps qs
 AreAlike [] (q ∷ qs) = ⊥
 AreAlike (p ∷ ps) [] = ⊥
 
--- A kind, with its count, that comes next behind pictures comes next behind pictures that are alike, with an SPS that is that of the
--- picture before, unless the kind starts a coded layer video sequence.
+-- A kind, with its count, that comes next after pictures comes next after pictures that are alike, with an SPS that is that of
+-- the picture before, unless the kind starts a coded layer video sequence.
 abbrev pub AlikeIsNext : Type 0
 AlikeIsNext = (ps qs : List Picture) (b c : Begun) (k : Kind) → AreAlike ps qs → AlikeForCounts b c
     → (k.clvss ≡ false → is_changed qs c.sps ≡ false) → IsNext ps b k → IsNext qs c k

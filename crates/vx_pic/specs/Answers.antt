@@ -1,13 +1,13 @@
--- Steps that answer a value or a refusal, one behind another: the first refusal is that of all. Our own.
+-- Steps that answer a value or a refusal, one after another: the first refusal is that of all. Our own.
 use Rattle.std.specs.Prelude.{Bool, cond, Result, Ok, Err}
 use Rattle.vx_bits.specs.declared.refusal.Refusal.{Refusal}
 
--- a step, and the next one, which has its value
+-- A step, and the next one, which has its value.
 infixl 10 ◌>>=◌
 abbrev pub ◌>>=◌ : {A B : Type 0} → Result A Refusal → (A → Result B Refusal) → Result B Refusal
 (Ok a) >>= next = next a
 (Err r) >>= next = Err r
 
--- refused where this holds
+-- Refused where this holds.
 abbrev pub refuse_if : Bool → Refusal → Result (Unit {0}) Refusal
 refuse_if holds r = cond holds (Err r) (Ok tt)

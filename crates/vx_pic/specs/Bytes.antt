@@ -14,20 +14,20 @@ pub record Ending : Type 0 where
   pub units : ℕ
   pub refusal : Refusal
 
--- behind all units of bytes: more bytes than a source may have, or a picture that lacks a slice (our own)
+-- After all units of bytes: more bytes than a source may have, or a picture that lacks a slice (our own).
 abbrev pub end_refusal : Bool → List Reading → Option Refusal
 end_refusal true before = lacks_slice before
 end_refusal false before = Some (Limit LONG_SOURCE)
 
--- a refused unit comes before what the bytes behind it are refused for, and that before their end (our own)
+-- A refused unit comes before what the bytes after it are refused for, and that before their end (our own).
 abbrev pub first_refusal : Bool → Option Refusal → StreamReading → Option Refusal
 first_refusal all framing o = option_or o.refusal (option_or framing (end_refusal all o.before))
 
--- that of bytes, where one is broken (our own)
+-- That of bytes, where one is broken (our own).
 abbrev pub ending_by : Bool → Option Refusal → StreamReading → Option Ending
 ending_by all framing o = option_map (λ r. record { units = length o.before; refusal = r }) (first_refusal all framing o)
 
--- the bytes of the units at these places (our own)
+-- The bytes of the units at these places (our own).
 abbrev pub units_at : List ℕ → List UnitPlace → List (List ℕ)
 units_at b places = map (unit_bytes b) places
 
@@ -39,10 +39,10 @@ pub record ArePictures (R : Readers) (b : List ℕ) (all : Bool) (ps : List Pict
   pub done : ps ≡ pictures (read_on R [] (units_at b places)).before
   pub ends : ending ≡ ending_by all framing (read_on R [] (units_at b places))
 
--- those of a source: of more bytes than it may have, the units whose end is seen in as many (our own)
+-- Those of a source: of more bytes than it may have, the units whose end is seen in as many (our own).
 abbrev pub AreSourcePictures : Readers → List ℕ → List Picture → Option Ending → Type 0
 AreSourcePictures R b ps ending = ArePictures R (take source_limit b) (nat_le (length b) source_limit) ps ending
 
--- the pictures that are seen in bytes, however these go on (our own)
+-- The pictures that are seen in bytes, however these go on (our own).
 abbrev pub AreSeenPictures : Readers → List ℕ → List Picture → Type 0
 AreSeenPictures R b ps = (ending : Option Ending) × ArePictures R b false ps ending

@@ -6,10 +6,10 @@ use Rattle.vx_bits.specs.declared.rules.TheConstants.{POC_RANGE}
 use Rattle.vx_pic.specs.declared.count.PrevTid0.{PrevTid0}
 use Rattle.vx_pic.specs.Counts.{Previous, fits_count}
 
--- prevPicOrderCntMsb is the count less the lsb
+-- PrevPicOrderCntMsb is the count less the lsb.
 abbrev pub previous_of : PrevTid0 → Previous
 previous_of p = record { lsb = p.lsb; msb = p.poc -ℤ pos p.lsb }
 
--- a count, refused where it doesn't have 32 bits
+-- A count, refused where it doesn't have 32 bits.
 abbrev pub checked : ℤ → Result ℤ Refusal
 checked z = cond (fits_count z) (Ok z) (Err (Structure POC_RANGE 0 0))

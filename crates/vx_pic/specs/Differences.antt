@@ -5,7 +5,8 @@ use Rattle.vx_pic.specs.declared.compare.Difference.{Difference}
 use Rattle.vx_pic.specs.Sets.{same_item}
 use Rattle.vx_pic.specs.Inputs.{Input}
 
--- the field at the first place where two lists of items differ: the first list's there, or the second's where the first has ended
+-- The field at the first place where two lists of items differ: the first list's there, or the second's where the first has
+-- ended.
 abbrev pub differing_field : List Item → List Item → Option ℕ
 differing_field [] [] = None
 differing_field [] (b ∷ others) = Some b.field
@@ -17,14 +18,14 @@ pub record Part : Type 1 where
   pub same : Type 0
   pub field : ℕ
 
--- a list of kept fields, and any other part, of which no field is told
+-- A list of kept fields, and any other part, of which no field is told.
 abbrev pub fields_part : List Item → List Item → Part
 fields_part items others = record { same = items ≡ others; field = unwrap_or (differing_field items others) 0 }
 
 abbrev pub whole_part : {A : Type 0} → A → A → Part
 whole_part x y = record { same = x ≡ y; field = 0 }
 
--- the parts, in their order
+-- The parts, in their order.
 abbrev pub parts_in_headers : Input → Input → List Part
 parts_in_headers a b =
     whole_part a.kind b.kind ∷ fields_part a.sps b.sps ∷ fields_part a.pps b.pps ∷ fields_part a.header b.header

@@ -11,16 +11,16 @@ use Rattle.vx_pic.specs.Alike.{IsNext}
 use Rattle.vx_pic.specs.Written.{AreInOrder, AreInForce, HeadReads, SliceReads}
 
 module _ (R : Readers) where
-  -- A picture behind these, the latest first, as far as its slices came.
+  -- A picture after these, the latest first, as far as its slices came.
   pub record IsSoundPicture (earlier : List Picture) (p : Picture) : Type 0 where
     pub first : Slice
     pub more : List Slice
     pub slices : p.slices ≡ first ∷ more
-    -- the header was read from its PH unit, or from its only slice, and refers to its sets
+    -- The header was read from its PH unit, or from its only slice, and refers to its sets.
     pub head : HeadReads R p.begun.unit p.begun first
     pub refers : referred_sps p.begun.pps ≡ sps_id p.begun.sps
     pub outside : AllByRecursion (λ s. has_header_inside s.unit ≡ false) more
-    -- each slice was read under it, in the picture's order, and the sets that it names are in force
+    -- Each slice was read under it, in the picture's order, and the sets that it names are in force.
     pub each : AllByRecursion (SliceReads R p.begun p.kind.nal_type) p.slices
     pub order : AreInOrder p.begun 0 p.slices
     pub bodies : AllByRecursion (λ s. AreInForce p.before (names_of p.begun.pps p.begun.header s.header)) p.slices
@@ -29,7 +29,7 @@ module _ (R : Readers) where
     pub tid : p.kind.temporal_id ≡ p.begun.temporal_id
     pub next : IsNext earlier p.begun p.kind
 
-  -- whole pictures, the latest first
+  -- Whole pictures, the latest first.
   abbrev pub AreFinished : List Picture → Type 0
   AreFinished [] = Unit {0}
   AreFinished (p ∷ earlier) = IsSoundPicture earlier p × (is_whole p ≡ true) × AreFinished earlier

@@ -34,14 +34,14 @@ use Rattle.vx_pic.specs.UnderSets.{at_slice_of}
 
 -- ---- what bits are answered with, from a place on (7.3)
 
--- they begin with the spelling of values of the form, and these are the items of the values (7.3),
+-- They begin with the spelling of values of the form, and these are the items of the values (7.3),
 pub record BeginsItems {A : Type 0} (form : Form A) (place : Place) (items : List Item) : Type 0 where
   pub values : List ℤ
   pub rest : List Bool
   pub spelled : Spells place.total form values place.left rest
   pub all : items ≡ items_along form values
 
--- or they spell values up to a field of it, and there the field is refused, so (7.3)
+-- or they spell values up to a field of it, and there the field is refused, so (7.3).
 pub record IsRefusedAt {A : Type 0} (form : Form A) (place : Place) (r : Refusal) : Type 0 where
   pub values : List ℤ
   pub cell : Cell ℕ
@@ -55,17 +55,17 @@ AnswersAt form place (Err r) = IsRefusedAt form place r
 
 -- ---- picture headers (7.3.2.8)
 
--- where it begins: in a PH unit at the first bit, in a slice behind sh_picture_header_in_slice_header_flag (7.3.2.7, 7.3.7)
+-- Where it begins: in a PH unit at the first bit, in a slice after sh_picture_header_in_slice_header_flag (7.3.2.7, 7.3.7).
 abbrev pub header_place : Bool → List ℕ → Place
 header_place true rbsp = record { total = 8 * length rbsp; left = drop 1 (bits_of rbsp) }
 header_place false rbsp = at_front rbsp
 
--- in a PH unit a trailing ends it (7.3.2.7)
+-- In a PH unit a trailing ends it (7.3.2.7).
 abbrev pub form_in : Bool → RplTable → List ℕ → Form (List ℕ)
 form_in true = header_form
 form_in false = unit_form
 
--- ph_pic_parameter_set_id (7.3.2.8)
+-- ph_pic_parameter_set_id (7.3.2.8).
 abbrev pub IsReferredPps : Bool → List ℕ → Result ℕ Refusal → Type 0
 IsReferredPps inside rbsp (Ok id) =
     (items : List Item) × BeginsItems pps_id_form (header_place inside rbsp) items × (id ≡ number items ph_pic_parameter_set_id)
@@ -73,7 +73,8 @@ IsReferredPps inside rbsp (Err r) = IsRefusedAt pps_id_form (header_place inside
 
 -- ---- slice headers (7.3.7)
 
--- the header that the unit's RBSP begins with, and the place in the unit behind it and behind the unit's two header bytes (7.3.7)
+-- The header that the unit's RBSP begins with, and the place in the unit after it and after the unit's two header bytes
+-- (7.3.7).
 pub record IsSlice (nal_type : ℕ) (b : Begun) (unit : List ℕ) (h : SliceHeader) : Type 0 where
   pub value : SliceValue
   pub size : ℕ

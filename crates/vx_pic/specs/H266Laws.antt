@@ -13,7 +13,7 @@ use Rattle.vx_pic.specs.Rules.{Readers}
 use Rattle.vx_pic.specs.PictureLayout.{IsLayoutAnswer}
 use Rattle.vx_pic.specs.H266.{AnswersAt, header_place, form_in, IsReferredPps, IsSliceAnswer, AreOfH266}
 
--- at most one answer
+-- At most one answer.
 abbrev pub AtMostOne : {A : Type 0} → (A → Type 0) → Type 0
 AtMostOne {A} P = (x y : A) → P x → P y → x ≡ y
 

@@ -1,5 +1,5 @@
--- The pictures of several streams, one stream behind another, joined behind ends of sequence. Lists of pictures have the latest first.
--- Our own.
+-- The pictures of several streams, one stream after another, joined after ends of sequence. Lists of pictures have the latest
+-- first. Our own.
 use Rattle.std.specs.Prelude.{◌≡◌, ℕ, ◌+◌, ◌<◌, ◌==◌, ◌&&◌, ◌||◌, not, Bool, true, false, cond, List, [], ◌∷◌, ◌++◌, length}
 use Rattle.std.specs.List.{AllByRecursion}
 use Rattle.vx_pic.specs.Sets.{is_non_ref}
@@ -10,30 +10,30 @@ use Rattle.vx_pic.specs.Finished.{AreFinished}
 
 -- ---- a join
 
--- the same picture behind an end of sequence
+-- The same picture after an end of sequence.
 abbrev pub after_end : Picture → Picture
 after_end p = record p { kind = record p.kind { after_eos = true } }
 
--- A picture that may come first behind a join: it starts a coded layer video sequence, and the counts of later pictures go back to it at
--- most, since it can be prevTid0Pic (8.3.1).
+-- A picture that may come first after a join: it starts a coded layer video sequence, and the counts of later pictures go back
+-- to it at most, since it can be prevTid0Pic (8.3.1).
 pub record Starts (p : Picture) : Type 0 where
   pub clvss : p.kind.clvss ≡ true
   pub tid : p.kind.temporal_id ≡ 0
   pub ref : is_non_ref p.begun.header ≡ false
 
--- Pictures from such a one on come behind other pictures as well as behind their own, where an end of sequence stands before it.
+-- Pictures from such a one on come after other pictures as well as after their own, where an end of sequence stands before it.
 abbrev pub JoinedAreFinished : Type 0
 JoinedAreFinished = (R : Readers) (later earlier others : List Picture) (p : Picture) → Starts p → is_empty others ≡ false
     → AreFinished R (later ++ p ∷ earlier) → AreFinished R others → AreFinished R (later ++ after_end p ∷ others)
 
 -- ---- the pictures of files
 
--- those of one file behind another, behind these pictures
+-- Those of one file after another, after these pictures.
 abbrev pub one_behind_another : List Picture → List (List Picture) → List Picture
 one_behind_another before [] = before
 one_behind_another before (f ∷ files) = one_behind_another (f ++ before) files
 
--- a file begins with picture n, where so many pictures come before these files
+-- A file begins with picture n, where so many pictures come before these files.
 abbrev pub begins_file : ℕ → List (List Picture) → ℕ → Bool
 begins_file before [] n = false
 begins_file before (f ∷ files) n = (not (is_empty f) && before == n) || begins_file (before + length f) files n
@@ -43,22 +43,22 @@ abbrev pub BeginsWhereFirst : Type 0
 BeginsWhereFirst = (more : List (List Picture)) (others : List Picture) (p : Picture) (later : List Picture) (rest : List (List Picture))
     → begins_file 0 (more ++ (later ++ p ∷ others) ∷ rest) (length (one_behind_another [] (more ++ others ∷ []))) ≡ is_empty others
 
--- the pictures as they are played: behind an end of sequence where they are joined
+-- The pictures as they are played: after an end of sequence where they are joined.
 abbrev pub played : (ℕ → Bool) → List Picture → List Picture
 played joins [] = []
 played joins (p ∷ earlier) = cond (joins (length earlier)) (after_end p) p ∷ played joins earlier
 
--- each picture that is joined may come first behind a join
+-- Each picture that is joined may come first after a join.
 abbrev pub StartWhere : (ℕ → Bool) → List Picture → Type 0
 StartWhere joins [] = Unit {0}
 StartWhere joins (p ∷ earlier) = (joins (length earlier) ≡ true → Starts p) × StartWhere joins earlier
 
--- Pictures are joined at least where a file begins behind others, and not at their first.
+-- Pictures are joined at least where a file begins after others, and not at their first.
 pub record AreJoined (joins : ℕ → Bool) (files : List (List Picture)) : Type 0 where
   pub first : joins 0 ≡ false
   pub begun : (n : ℕ) → 0 < n → begins_file 0 files n ≡ true → joins n ≡ true
 
--- Then they come behind one another as pictures of a stream do, with the counts that they have in their files.
+-- Then they come after one another as pictures of a stream do, with the counts that they have in their files.
 abbrev pub PlayedAreFinished : Type 0
 PlayedAreFinished = (R : Readers) (joins : ℕ → Bool) (files : List (List Picture)) → AreJoined joins files
     → AllByRecursion (AreFinished R) files → StartWhere joins (one_behind_another [] files)

@@ -2,7 +2,7 @@
 use Rattle.std.specs.Prelude.{List}
 use Rattle.vx_bits.specs.declared.list.Item.{Item}
 
--- the items of an SPS and of a PPS
+-- The items of an SPS and of a PPS.
 pub record SetItems : Type 0 where
   pub sps : List Item
   pub pps : List Item

@@ -29,19 +29,19 @@ use Rattle.vx_sh.specs.InForce.{at_sets}
 
 -- ---- adaptation parameter sets
 
--- how many ids a type has at most: 0 to 7 (7.4.3.6)
+-- How many ids a type has at most: 0 to 7 (7.4.3.6).
 abbrev pub id_count : ℕ
 id_count = 8
 
--- their place in a list of those of all types, each type's by id
+-- Their place in a list of those of all types, each type's by id.
 abbrev pub slot_of : ℕ → ℕ → ℕ
 slot_of kind id = id_count * kind + id
 
--- the one of a type and an id
+-- The one of a type and an id.
 abbrev pub aps_at : List (Option Aps) → ℕ → ℕ → Option Aps
 aps_at sets kind id = cond (nat_lt kind (SCALING + 1) && nat_lt id id_count) (slice_index_or sets (slot_of kind id) None) None
 
--- those in force behind these readings, by their types and ids
+-- Those in force after these readings, by their types and ids.
 abbrev pub stored_of : ℕ → List Reading → List (Option Aps)
 stored_of kind before = map (λ id. stored_aps kind id before) (range_with_len 0 id_count)
 
@@ -70,15 +70,15 @@ pub record Parts : Type 0 where
   pub bodies : List (Option Aps)
   pub messages : List Message
 
--- a slice that is kept by its places in the picture's bytes
+-- A slice that is kept by its places in the picture's bytes.
 abbrev pub slice_in : List ℕ → SliceSlot → SlicePart
 slice_in bytes s = record { unit = slice_range bytes s.start s.end; header = s.header; payload = s.payload - s.start }
 
--- one that is lent
+-- One that is lent.
 abbrev pub part_of : SliceView → SlicePart
 part_of v = record { unit = v.unit.now; header = v.header.now; payload = length v.unit.now - length v.payload.now }
 
--- the PH unit, which comes first; none where the header stands inside the slice
+-- The PH unit, which comes first; none where the header is inside the slice.
 abbrev pub header_unit_in : List ℕ → ℕ → Option (List ℕ)
 header_unit_in bytes end = cond (end == 0) None (Some (take end bytes))
 
@@ -98,21 +98,21 @@ seen p = record {
 
 -- ---- what is asked of it
 
--- its places stand in the bytes, in order, and the payload isn't empty
+-- Its places stand in the bytes, in order, and the payload isn't empty.
 pub record IsPlaced (bytes : List ℕ) (s : SliceSlot) : Type 0 where
   pub start : s.start ≤ s.payload
   pub payload : s.payload < s.end
   pub end : s.end ≤ length bytes
 
--- what is read of a slice with this header, but for the place of its payload
+-- What is read of a slice with this header, except for the place of its payload.
 abbrev pub read_of : SliceValue → SliceHeader
 read_of h = record { fields = h.fields; subpic = h.subpic; payload = 0 }
 
--- what it names of adaptation parameter sets, of a picture with this PPS and header
+-- What it names of adaptation parameter sets, of a picture with this PPS and header.
 abbrev pub aps_named_by : List Item → List Item → SliceValue → List Slot
 aps_named_by pps header h = names_of pps header (read_of h)
 
--- each of these is there
+-- Each of these is there.
 abbrev pub AreThere : List (Option Aps) → List Slot → Type 0
 AreThere sets slots = AllByRecursion (λ slot. is_none (aps_at sets slot.kind slot.id) ≡ false) slots
 
@@ -124,36 +124,36 @@ pub record IsReadAt (n : At) (h : SliceValue) : Type 0 where
 
 -- Parts that make up a picture.
 pub record MakePicture (p : PictureParts) : Type 0 where
-  -- its type and its TemporalId are those of a NAL unit (the first slice's)
+  -- Its type and its TemporalId are those of a NAL unit (the first slice's).
   pub type : p.kind.nal_type < 32
   pub tid : p.kind.temporal_id < 7
-  -- there is a slice, and all slices of the layout came (a whole picture), of which there are at most so many
+  -- There is a slice, and all slices of the layout came (a whole picture), of which there are at most so many.
   pub some : 0 < length p.slices.now
   pub whole : length p.slices.now ≡ length p.layout.now.slices
   pub few : length p.slices.now ≤ 1000
-  -- the units stand in the bytes, each slice with a payload (a slice that is read)
+  -- The units stand in the bytes, each slice with a payload (a slice that is read).
   pub header : p.header_end ≤ length p.bytes.now
   pub places : AllByRecursion (IsPlaced p.bytes.now) p.slices.now
-  -- both sets have one size, and make up the layout and the ids, one of each subpicture (a header that is read)
+  -- Both sets have one size, and make up the layout and the ids, one of each subpicture (a header that is read).
   pub size : same_size p.sps.now p.pps.now ≡ true
   pub sets : MakeLayout p.sps.now p.pps.now
   pub layout : p.layout.now ≡ numbers_in p.sps.now p.pps.now
   pub ids : p.ids.now ≡ ids_of p.sps.now p.pps.now
   pub one_each : length p.ids.now ≡ length p.layout.now.subpics
-  -- the picture header is one under both sets, and each slice header one under these and it (headers that are read)
+  -- The picture header is one under both sets, and each slice header one under these and it (headers that are read).
   pub read : IsHeader (structures p.sps.now) (in_force p.sps.now p.pps.now) p.header.now
   pub slices_read : AllByRecursion
       (λ s. IsReadAt (at_sets p.kind.nal_type p.sps.now p.pps.now p.header.now p.ids.now p.layout.now) s.header) p.slices.now
-  -- each slice's subpicture is one of the layout's (a slice that is read)
+  -- Each slice's subpicture is one of the layout's (a slice that is read).
   pub subpics : AllByRecursion (λ s. s.header.subpic < length p.layout.now.subpics) p.slices.now
-  -- each adaptation parameter set that a slice or the picture header names is there (a picture whose slices joined it)
+  -- Each adaptation parameter set that a slice or the picture header names is there (a picture whose slices joined it).
   pub bodies : AllByRecursion (λ s. AreThere p.bodies.now (aps_named_by p.pps.now p.header.now.fields s.header)) p.slices.now
-  -- its QP is in range (a picture whose slices joined it)
+  -- Its QP is in range (a picture whose slices joined it).
   pub qps : AllByRecursion (λ s. is_qp p.sps.now (slice_qp p.pps.now p.header.now.fields (read_of s.header)) ≡ true) p.slices.now
 
 -- ---- which picture it is
 
--- the header of a slice of a picture, with the lists that its items come to
+-- The header of a slice of a picture, with the lists that its items come to.
 abbrev pub slice_header_of : Begun → SliceHeader → SliceValue
 slice_header_of b h = record {
   inside = is_set (number h.fields sh_picture_header_in_slice_header_flag);
@@ -166,7 +166,7 @@ slice_header_of b h = record {
 abbrev pub slice_part : Begun → Slice → SlicePart
 slice_part b s = record { unit = s.unit; header = slice_header_of b s.header; payload = s.header.payload }
 
--- a picture of a stream, as callers see it
+-- A picture of a stream, as callers see it.
 abbrev pub parts_of : Picture → Parts
 parts_of p = record {
   kind = p.kind;

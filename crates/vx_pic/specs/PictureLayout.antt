@@ -23,7 +23,7 @@ use Rattle.vx_pps.specs.Pps as pps
 
 -- ---- tiles, slices and subpictures (6.3.1, 6.5.1)
 
--- the bounds of the tile columns and rows, in CTUs; a picture that isn't partitioned is one tile (6.5.1)
+-- The bounds of the tile columns and rows, in CTUs; a picture that isn't partitioned is one tile (6.5.1).
 abbrev pub one_tile : ℕ → List ℕ
 one_tile size = 0 ∷ size ∷ []
 
@@ -33,11 +33,11 @@ columns_in_picture s p = cond (pps.is_partitioned p) (pps.tile_columns_of p) (on
 abbrev pub rows_in_picture : List Item → List Item → List ℕ
 rows_in_picture s p = cond (pps.is_partitioned p) (pps.tile_rows_of p) (one_tile (sps.ctu_rows_of s))
 
--- the subpictures, by their index (7.4.3.4)
+-- The subpictures, by their index (7.4.3.4).
 abbrev pub subpictures_of : List Item → List Rect
 subpictures_of s = map (rect_of s) (range_with_len 0 (subpics_of s))
 
--- the slices: of the slice list, or each subpicture; a picture that isn't partitioned is one slice (6.5.1, 7.4.3.5)
+-- The slices: of the slice list, or each subpicture; a picture that isn't partitioned is one slice (6.5.1, 7.4.3.5).
 abbrev pub slices_in_picture : List Item → List Item → List Rect
 slices_in_picture s p =
     cond (pps.is_partitioned p) (unwrap_or (pps.slice_list_of p) (subpictures_of s)) (whole_picture (sps.ctu_columns_of s) (sps.ctu_rows_of s) ∷ [])
@@ -47,7 +47,7 @@ numbers_in s p = record { columns = columns_in_picture s p; rows = rows_in_pictu
 
 -- ---- ids of subpictures (7.4.3.5)
 
--- SubpicIdVal (7.4.3.5): where ids are signalled those of the PPS, or else of the SPS; and else the indices
+-- SubpicIdVal (7.4.3.5): where ids are signalled those of the PPS, or else of the SPS; and else the indices.
 abbrev pub are_in_pps : List Item → List Item → Bool
 are_in_pps s p =
     is_set (number s sps_fields.sps_subpic_id_mapping_explicitly_signalled_flag)
@@ -58,60 +58,60 @@ ids_of s p = cond (are_in_pps s p) (numbers_of p pps_fields.pps_subpic_id) (map 
 
 -- ---- what both sets have to agree on, beside the size of pictures (7.4.3.4, 7.4.3.5)
 
--- the CTU sizes differ (7.4.3.5, pps_log2_ctu_size_minus5)
+-- The CTU sizes differ (7.4.3.5, pps_log2_ctu_size_minus5).
 unfoldable pub ctu_sizes_differ : List Item → List Item → Bool
 ctu_sizes_differ s p =
     pps.is_partitioned p
     && not (number p pps_fields.pps_log2_ctu_size_minus5 == number s sps_fields.sps_log2_ctu_size_minus5)
 
--- the PPS has to have the ids: they are signalled, and not in the SPS (7.4.3.5, pps_subpic_id_mapping_present_flag)
+-- The PPS must have the ids: they are signalled, and not in the SPS (7.4.3.5, pps_subpic_id_mapping_present_flag).
 abbrev pub needs_ids : List Item → Bool
 needs_ids s =
     is_set (number s sps_fields.sps_subpic_id_mapping_explicitly_signalled_flag)
     && not (is_set (number s sps_fields.sps_subpic_id_mapping_present_flag))
 
--- both or neither (our own)
+-- Both or neither (our own).
 abbrev pub same_flag : Bool → Bool → Bool
 same_flag true b = b
 same_flag false b = not b
 
--- it has other numbers of them than the SPS, or of other lengths (7.4.3.5, pps_num_subpics_minus1, pps_subpic_id_len_minus1)
+-- It has other numbers of them than the SPS, or of other lengths (7.4.3.5, pps_num_subpics_minus1, pps_subpic_id_len_minus1).
 abbrev pub ids_unlike : List Item → List Item → Bool
 ids_unlike s p =
     not (number p pps_fields.pps_num_subpics_minus1 == number s sps_fields.sps_num_subpics_minus1)
     || not (number p pps_fields.pps_subpic_id_len_minus1 == number s sps_fields.sps_subpic_id_len_minus1)
 
--- there are more subpictures than ids of that length (7.4.3.4, sps_subpic_id_len_minus1)
+-- There are more subpictures than ids of that length (7.4.3.4, sps_subpic_id_len_minus1).
 abbrev pub ids_too_short : List Item → Bool
 ids_too_short s =
     is_set (number s sps_fields.sps_subpic_info_present_flag)
     && nat_lt (2 ^ (number s sps_fields.sps_subpic_id_len_minus1 + 1)) (subpics_of s)
 
--- the ids stand where they aren't wanted, or the other way round, or aren't as the SPS says (7.4.3.4, 7.4.3.5)
+-- The ids stand where they aren't wanted, or the other way round, or aren't as the SPS says (7.4.3.4, 7.4.3.5).
 unfoldable pub ids_misplaced : List Item → List Item → Bool
 ids_misplaced s p =
     not (same_flag (is_set (number p pps_fields.pps_subpic_id_mapping_present_flag)) (needs_ids s))
     || ((is_set (number p pps_fields.pps_subpic_id_mapping_present_flag) && ids_unlike s p) || ids_too_short s)
 
--- no two subpictures have one id (SubpicIdVal, 7.4.3.5)
+-- No two subpictures have one id (SubpicIdVal, 7.4.3.5).
 abbrev pub AreDistinct : List ℕ → Type 0
 AreDistinct ids = AllPairs (λ a b. a ≡ b → ⊥) ids
 
--- the ids are as they have to be (7.4.3.4, 7.4.3.5)
+-- The ids are as they must be (7.4.3.4, 7.4.3.5).
 pub record IdsAgree (s p : List Item) : Type 0 where
   pub placed : ids_misplaced s p ≡ false
   pub distinct : AreDistinct (ids_of s p)
 
 -- ---- the layout (our own)
 
--- the numbers of the two faults, which come before those of the layout itself
+-- The numbers of the two faults, which come before those of the layout itself.
 abbrev pub ctu_size_fault : ℕ
 ctu_size_fault = 1
 
 abbrev pub ids_fault : ℕ
 ids_fault = 2
 
--- both sets make up a layout,
+-- Both sets make up a layout,
 pub record MakeLayout (s p : List Item) : Type 0 where
   pub ctus : ctu_sizes_differ s p ≡ false
   pub ids : IdsAgree s p

@@ -9,8 +9,8 @@ use Rattle.vx_sei.specs.declared.message.Message.{Message}
 use Rattle.vx_pic.specs.declared.kind.Kind.{Kind}
 use Rattle.vx_pic.specs.Sets.{SliceHeader, sps_id, pps_id}
 
--- A picture header with what is in force for it: the sets that it refers to, their layout, and its TemporalId; and the PH unit that
--- it came in, None where it stands inside a slice.
+-- A picture header with what is in force for it: the sets that it refers to, their layout, and its TemporalId; and the PH unit
+-- that it came in, None where it is inside a slice.
 pub record Begun : Type 0 where
   pub sps : List Item
   pub pps : List Item
@@ -26,30 +26,30 @@ pub record Slice : Type 0 where
 
 -- What a unit is read as.
 pub data Reading : Type 0 where
-  -- it is dropped
+  -- It is dropped.
   dropped : Reading
   vps_read : List Item → Reading
   sps_read : List Item → Reading
   pps_read : List Item → Reading
   aps_read : Aps → Reading
-  -- SEI messages that are carried with the next picture
+  -- SEI messages that are carried with the next picture.
   messages_read : List Message → Reading
-  -- a PH unit
+  -- A PH unit.
   header_read : Begun → Reading
-  -- the first slice of a picture, and a further one
+  -- The first slice of a picture, and a further one.
   first_slice : Begun → Kind → Slice → Reading
   next_slice : Slice → Reading
-  -- an end of sequence, or of the bitstream
+  -- An end of sequence, or of the bitstream.
   sequence_ended : Reading
 
 -- ---- sets in force
 
--- the latest reading that gives something
+-- The latest reading that gives something.
 abbrev pub latest_given : {A : Type 0} → (Reading → Option A) → List Reading → Option A
 latest_given gives [] = None
 latest_given gives (r ∷ before) = option_or (gives r) (latest_given gives before)
 
--- the set of an id, where the unit is one
+-- The set of an id, where the unit is one.
 abbrev pub sps_in : ℕ → Reading → Option (List Item)
 sps_in id (sps_read s) = cond (sps_id s == id) (Some s) None
 sps_in id _ = None
@@ -62,8 +62,8 @@ abbrev pub aps_in : ℕ → ℕ → Reading → Option Aps
 aps_in kind id (aps_read a) = cond ((a.kind == kind) && (a.id == id)) (Some a) None
 aps_in kind id _ = None
 
--- those in force: of the last units of their ids, and of APSs of their types and ids (7.4.3.4 to 7.4.3.6, on the content
--- of sets)
+-- Those in force: of the last units of their ids, and of APSs of their types and ids (7.4.3.4 to 7.4.3.6, on the content of
+-- sets).
 abbrev pub stored_sps : ℕ → List Reading → Option (List Item)
 stored_sps id before = latest_given (sps_in id) before
 
@@ -75,7 +75,7 @@ stored_aps kind id before = latest_given (aps_in kind id) before
 
 -- ---- what came since the last slice
 
--- whether a sequence ended there
+-- Whether a sequence ended there.
 abbrev pub is_ended : List Reading → Bool
 is_ended [] = false
 is_ended (sequence_ended ∷ before) = true
@@ -83,7 +83,7 @@ is_ended (first_slice b k s ∷ before) = false
 is_ended (next_slice s ∷ before) = false
 is_ended (_ ∷ before) = is_ended before
 
--- the messages, in the order of the units
+-- The messages, in the order of the units.
 abbrev pub gathered : List Reading → List Message
 gathered [] = []
 gathered (messages_read messages ∷ before) = gathered before ++ messages
@@ -100,15 +100,15 @@ pub record Picture : Type 0 where
   pub before : List Reading
   pub slices : List Slice
 
--- its adaptation parameter sets: those in force at its first slice (7.4.3.6)
+-- Its adaptation parameter sets: those in force at its first slice (7.4.3.6).
 abbrev pub aps_of : Picture → ℕ → ℕ → Option Aps
 aps_of p kind id = stored_aps kind id p.before
 
--- its messages: those since the last slice of the picture before it
+-- Its messages: those since the last slice of the picture before it.
 abbrev pub messages_of : Picture → List Message
 messages_of p = gathered p.before
 
--- all its slices came
+-- All its slices came.
 abbrev pub is_whole : Picture → Bool
 is_whole p = length p.slices == length p.begun.layout.slices
 
@@ -130,19 +130,19 @@ current (first_slice b k s ∷ before) = going (record { begun = b; kind = k; be
 current (next_slice s ∷ before) = with_slice s (current before)
 current (_ ∷ before) = current before
 
--- a picture is begun, and not all its slices came
+-- A picture is begun, and not all its slices came.
 abbrev pub is_open : Current → Bool
 is_open nothing = false
 is_open (headed b) = true
 is_open (going p) = not (is_whole p)
 
--- some of its slices came, and not all
+-- Some of its slices came, and not all.
 abbrev pub is_within_picture : Current → Bool
 is_within_picture nothing = false
 is_within_picture (headed b) = false
 is_within_picture (going p) = not (is_whole p)
 
--- the picture, where it is whole
+-- The picture, where it is whole.
 abbrev pub picture_if_whole : Current → List Picture
 picture_if_whole nothing = []
 picture_if_whole (headed b) = []
@@ -153,11 +153,11 @@ is_slice (first_slice b k s) = true
 is_slice (next_slice s) = true
 is_slice _ = false
 
--- the picture that this reading completes
+-- The picture that this reading completes.
 abbrev pub completed : Reading → List Reading → List Picture
 completed r before = cond (is_slice r) (picture_if_whole (current (r ∷ before))) []
 
--- the whole pictures, the latest first: a picture is done with its last slice
+-- The whole pictures, the latest first: a picture is done with its last slice.
 abbrev pub pictures : List Reading → List Picture
 pictures [] = []
 pictures (r ∷ before) = completed r before ++ pictures before

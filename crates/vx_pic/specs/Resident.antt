@@ -1,4 +1,4 @@
--- Pictures that are written one behind another: which sets are sent with each, and that all are read again. Our own.
+-- Pictures that are written one after another: which sets are sent with each, and that all are read again. Our own.
 use Rattle.std.specs.Prelude.{◌≡◌, ◌⊎◌, ℕ, ◌+◌, ◌==◌, ◌&&◌, ◌≤◌, Bool, true, false, not, cond, List, [], ◌∷◌, ◌++◌, length, filter}
 use Rattle.std.specs.Prelude.{sum_by, nat_le, Option, Some, None}
 use Rattle.std.specs.Option.{option_or}
@@ -15,7 +15,7 @@ use Rattle.vx_pic.specs.Written.{readings_after, before_header, planned, Rests, 
 
 -- ---- plans one behind another, the last one first
 
--- what their units are read as
+-- What their units are read as.
 abbrev pub readings_of_plans : List Plan → List Reading
 readings_of_plans [] = []
 readings_of_plans (p ∷ done) = readings_after (readings_of_plans done) (readings_of p)
@@ -24,63 +24,63 @@ abbrev pub units_written : List Plan → List (List ℕ)
 units_written [] = []
 units_written (p ∷ done) = units_written done ++ units_of p
 
--- the pictures
+-- The pictures.
 abbrev pub planned_of : List Plan → List Picture
 planned_of [] = []
 planned_of (p ∷ done) = planned (readings_of_plans done) p ∷ planned_of done
 
 -- ---- sets that are sent
 
--- both have one type and one id
+-- Both have one type and one id.
 abbrev pub same_slot : Set → Set → Bool
 same_slot (an_sps s) (an_sps t) = sps_id s == sps_id t
 same_slot (a_pps s) (a_pps t) = pps_id s == pps_id t
 same_slot (an_aps a) (an_aps b) = (a.kind == b.kind) && (a.id == b.id)
 same_slot _ _ = false
 
--- before an IRAP or GDR picture no set counts as sent: a receiver may begin there
+-- Before an IRAP or GDR picture no set counts as sent: a receiver may begin there.
 abbrev pub kept_for : ℕ → List SetUnit → List SetUnit
 kept_for t history = cond (is_irap_or_gdr t) [] history
 
--- the sets sent since the last such picture was begun
+-- The sets sent since the last such picture was begun.
 abbrev pub history_of : List Plan → List SetUnit
 history_of [] = []
 history_of (p ∷ done) = kept_for p.kind.nal_type (history_of done) ++ p.sent
 
--- no two of these have one type and one id
+-- No two of these have one type and one id.
 abbrev pub HaveOwnSlots : List SetUnit → Type 0
 HaveOwnSlots [] = Unit {0}
 HaveOwnSlots (x ∷ more) = AllByRecursion (λ y. same_slot x.set y.set ≡ false) more × HaveOwnSlots more
 
--- the same bytes
+-- The same bytes.
 abbrev pub same_bytes : List ℕ → List ℕ → Bool
 same_bytes [] [] = true
 same_bytes (a ∷ bytes) (b ∷ others) = (a == b) && same_bytes bytes others
 same_bytes [] (b ∷ others) = false
 same_bytes (a ∷ bytes) [] = false
 
--- the same set
+-- The same set.
 abbrev pub same_set : Set → Set → Bool
 same_set (an_sps s) (an_sps t) = same_items s t
 same_set (a_pps s) (a_pps t) = same_items s t
 same_set (an_aps a) (an_aps b) = (a.kind == b.kind) && ((a.id == b.id) && same_bytes a.body b.body)
 same_set _ _ = false
 
--- the last of these units with the type and the id of a set
+-- The last of these units with the type and the id of a set.
 abbrev pub last_of : Set → List SetUnit → Option SetUnit
 last_of s [] = None
 last_of s (x ∷ more) = option_or (last_of s more) (cond (same_slot x.set s) (Some x) None)
 
--- that unit is of the same set, and can be decoded with pictures of a TemporalId: its own isn't above it (7.4.2.2)
+-- That unit is of the same set, and can be decoded with pictures of a TemporalId: its own isn't above it (7.4.2.2).
 abbrev pub serves : ℕ → Set → Option SetUnit → Bool
 serves t s None = false
 serves t s (Some x) = same_set x.set s && nat_le (temporal_id x.unit) t
 
--- a set is resident behind sets that count as sent, for a picture of this TemporalId
+-- A set is resident after sets that count as sent, for a picture of this TemporalId.
 abbrev pub is_resident : ℕ → List SetUnit → SetUnit → Bool
 is_resident t history x = serves t x.set (last_of x.set history)
 
--- what counts as sent for a plan behind others
+-- What counts as sent for a plan after others.
 abbrev pub sent_before : List Plan → Plan → List SetUnit
 sent_before done p = kept_for p.kind.nal_type (history_of done)
 
@@ -97,17 +97,17 @@ NeededIsStored = (done : List Plan) (p : Plan) (s : Sends done p)
 
 -- ---- all plans
 
--- one of them is this set
+-- One of them is this set.
 abbrev pub HasSet : List SetUnit → Set → Type 0
 HasSet [] s = ⊥
 HasSet (x ∷ more) s = (x.set ≡ s) ⊎ HasSet more s
 
--- each adaptation parameter set that is named is among them
+-- Each adaptation parameter set that is named is among them.
 abbrev pub HaveNamed : List SetUnit → List Slot → Type 0
 HaveNamed needed slots = AllByRecursion (λ slot. (a : Aps) × (a.kind ≡ slot.kind) × (a.id ≡ slot.id) × HasSet needed (an_aps a)) slots
 
 module _ (R : Readers) where
-  -- What is asked of a plan that is written behind others.
+  -- What is asked of a plan that is written after others.
   pub record IsPlanned (done : List Plan) (p : Plan) : Type 0 where
     pub sets : AllByRecursion (λ x. Says R x.unit x.set) p.sent
     pub sends : Sends done p
@@ -139,7 +139,7 @@ module _ (R : Readers) where
 abbrev pub WrittenReadsAgain : Type 0
 WrittenReadsAgain = (R : Readers) (done : List Plan) → AreAllPlanned R done → AllReadAgain R done
 
--- an adaptation parameter set is one of the picture
+-- An adaptation parameter set is one of the picture.
 abbrev pub IsBodyOf : Picture → Set → Type 0
 IsBodyOf p (an_sps s) = Unit {0}
 IsBodyOf p (a_pps s) = Unit {0}

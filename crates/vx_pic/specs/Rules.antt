@@ -1,5 +1,5 @@
--- How a unit is read behind those before it, rule by rule in the order in which they are tried, whatever sets and headers are read as.
--- Our own in their order; each cites what it restates, and the others are our own.
+-- How a unit is read after those before it, rule by rule in the order in which they are tried, whatever sets and headers are
+-- read as. Our own in their order; each cites what it restates, and the others are our own.
 use Rattle.std.specs.Prelude.{ℕ, ◌+◌, ◌^◌, ◌==◌, ◌&&◌, not, nat_le, nat_lt, Bool, cond, List, [], ◌∷◌, ◌++◌, length, sum_by}
 use Rattle.std.specs.Prelude.{Option, Some, None, is_none, ok_or, Result, Ok, Err}
 use Rattle.vx_bits.specs.declared.list.Item.{Item}
@@ -27,16 +27,16 @@ pub record Readers : Type 0 where
   pub vps : List ℕ → Result (List Item) Refusal
   pub sps : List ℕ → Result (List Item) Refusal
   pub pps : List ℕ → Result (List Item) Refusal
-  -- None: a type that isn't stored
+  -- None: a type that isn't stored.
   pub aps : List ℕ → Result (Option Aps) Refusal
-  -- the carried messages; none of what is no SEI RBSP
+  -- The carried messages; none of what is no SEI RBSP.
   pub sei : List ℕ → List Message
-  -- the layout that an SPS and a PPS give, or the lowest fault (6.5.1)
+  -- The layout that an SPS and a PPS give, or the lowest fault (6.5.1).
   pub layout : List Item → List Item → Result Numbers Refusal
-  -- ph_pic_parameter_set_id, and the picture header under its sets; in a slice, or in a PH unit with what ends it
+  -- ph_pic_parameter_set_id, and the picture header under its sets; in a slice, or in a PH unit with what ends it.
   pub referred_pps : Bool → List ℕ → Result ℕ Refusal
   pub header : Bool → List Item → List Item → List ℕ → Result (List Item) Refusal
-  -- a slice's header, by the type of the picture's first slice, in a unit
+  -- A slice's header, by the type of the picture's first slice, in a unit.
   pub slice : ℕ → Begun → List ℕ → Result SliceHeader Refusal
 
 -- ---- refusals
@@ -44,11 +44,11 @@ pub record Readers : Type 0 where
 abbrev pub structure : ℕ → Refusal
 structure code = Structure code 0 0
 
--- a set that didn't come (7.4.3.4 to 7.4.3.6)
+-- A set that didn't come (7.4.3.4 to 7.4.3.6).
 abbrev pub missing : ℕ → ℕ → Refusal
 missing kind id = Structure rules.SET_MISSING kind id
 
--- the first of these adaptation parameter sets that isn't stored is missing (7.4.3.6)
+-- The first of these adaptation parameter sets that isn't stored is missing (7.4.3.6).
 abbrev pub are_stored : List Reading → List Slot → Result (Unit {0}) Refusal
 are_stored before [] = Ok tt
 are_stored before (slot ∷ slots) =
@@ -56,7 +56,7 @@ are_stored before (slot ∷ slots) =
 
 -- ---- limits
 
--- the bytes of a picture: of its PH unit and its slices
+-- The bytes of a picture: of its PH unit and its slices.
 abbrev pub unit_size : Option (List ℕ) → ℕ
 unit_size None = 0
 unit_size (Some unit) = length unit
@@ -67,26 +67,27 @@ picture_size p = unit_size p.begun.unit + sum_by (λ s. length s.unit) p.slices
 unfoldable pub picture_limit : ℕ
 picture_limit = 2 ^ 25
 
--- the bytes of the messages gathered for a picture
+-- The bytes of the messages gathered for a picture.
 unfoldable pub message_limit : ℕ
 message_limit = 65536
 
 -- ---- pictures and slices
 
--- an adaptation parameter set that is stored, or dropped
+-- An adaptation parameter set that is stored, or dropped.
 abbrev pub aps_reading : Option Aps → Reading
 aps_reading (Some a) = aps_read a
 aps_reading None = dropped
 
--- the kind of a picture, by its first slice
+-- The kind of a picture, by its first slice.
 abbrev pub kind_at : List Reading → Begun → List ℕ → Kind
 kind_at before b u = kind_of (pictures before) (is_ended before) b (nal_unit_type u) (temporal_id u)
 
--- it begins anew with another picture than an IRAP or GDR picture (7.4.2.4.2)
+-- It begins anew with another picture than an IRAP or GDR picture (7.4.2.4.2).
 abbrev pub starts_elsewhere : List Reading → List ℕ → Bool
 starts_elsewhere before u = begins_anew (pictures before) (is_ended before) && not (is_irap_or_gdr (nal_unit_type u))
 
--- a picture begins: where a coded layer video sequence may, with the SPS of that sequence, and a count of 32 bits (7.4.2.4.2, 8.3.1)
+-- A picture begins: where a coded layer video sequence may, with the SPS of that sequence, and a count of 32 bits (7.4.2.4.2,
+-- 8.3.1).
 abbrev pub opened_as : Bool → Bool → Kind → Result Kind Refusal
 opened_as elsewhere changed k = do
   _ ← refuse_if elsewhere (structure rules.STARTS_ELSEWHERE)
@@ -97,18 +98,18 @@ opened_as elsewhere changed k = do
 abbrev pub opens : List Reading → Begun → List ℕ → Result Kind Refusal
 opens before b u = opened_as (starts_elsewhere before u) (is_changed (pictures before) b.sps) (kind_at before b u)
 
--- before its first slice
+-- Before its first slice.
 abbrev pub opened : List Reading → Begun → Kind → Picture
 opened before b k = record { begun = b; kind = k; before = before; slices = [] }
 
--- messages for the next picture
+-- Messages for the next picture.
 abbrev pub gathers : List Reading → List Message → Result Reading Refusal
 gathers before messages = do
   _ ← refuse_if (nat_lt message_limit (spelled_length (gathered before ++ messages))) (Limit rules.LONG_MESSAGES)
   Ok (messages_read messages)
 
 module _ (R : Readers) where
-  -- a picture header, in a PH unit or inside a slice, where there is none (7.4.2.4, 7.4.3.8)
+  -- A picture header, in a PH unit or inside a slice, where there is none (7.4.2.4, 7.4.3.8).
   abbrev pub begins : List Reading → List ℕ → Option (List ℕ) → Result Begun Refusal
   begins before u unit = do
     id ← R.referred_pps (is_none unit) (rbsp_of u)
@@ -119,7 +120,7 @@ module _ (R : Readers) where
     header ← R.header (is_none unit) sps pps (rbsp_of u)
     Ok (record { sps = sps; pps = pps; layout = layout; header = header; temporal_id = temporal_id u; unit = unit })
 
-  -- a slice of a picture, behind its other slices (7.4.2.2, 7.4.8)
+  -- A slice of a picture, after its other slices (7.4.2.2, 7.4.8).
   abbrev pub joins : Picture → List ℕ → Result Slice Refusal
   joins p u = do
     _ ← refuse_if (not (temporal_id u == p.begun.temporal_id)) (structure rules.TEMPORAL_ID_DIFFERS)
@@ -132,7 +133,7 @@ module _ (R : Readers) where
     _ ← refuse_if (nat_lt picture_limit (picture_size p + length u)) (Limit rules.LONG_PICTURE)
     Ok (record { unit = u; header = header })
 
-  -- the first slice, and a further one (7.4.2.4)
+  -- The first slice, and a further one (7.4.2.4).
   abbrev pub first : List Reading → Begun → List ℕ → Result Reading Refusal
   first before b u = do
     k ← opens before b u
@@ -144,7 +145,7 @@ module _ (R : Readers) where
     s ← joins p u
     Ok (next_slice s)
 
-  -- a slice whose picture header came before it (7.4.2.4)
+  -- A slice whose picture header came before it (7.4.2.4).
   abbrev pub follows : List Reading → Current → List ℕ → Result Reading Refusal
   follows before nothing u = Err (structure rules.SLICE_WITHOUT_HEADER)
   follows before (headed b) u = first before b u
@@ -152,7 +153,7 @@ module _ (R : Readers) where
     _ ← refuse_if (is_whole p) (structure rules.SLICE_WITHOUT_HEADER)
     further p u
 
-  -- a slice with the picture header inside: it is the only one of its picture (sh_picture_header_in_slice_header_flag, 7.4.8)
+  -- A slice with the picture header inside: it is the only one of its picture (sh_picture_header_in_slice_header_flag, 7.4.8).
   abbrev pub alone : List Reading → List ℕ → Result Reading Refusal
   alone before u = do
     _ ← refuse_if (is_open (current before)) (structure rules.SLICE_MISSING)
@@ -160,7 +161,7 @@ module _ (R : Readers) where
     _ ← refuse_if (nat_lt 1 (length b.layout.slices)) (structure rules.HEADER_INSIDE_OF_SEVERAL)
     first before b u
 
-  -- a unit, by its type (7.4.2.2)
+  -- A unit, by its type (7.4.2.2).
   abbrev pub reads_as : Class → List Reading → List ℕ → Result Reading Refusal
   reads_as other_unit before u = Ok dropped
   reads_as vps_unit before u = do
@@ -191,7 +192,7 @@ module _ (R : Readers) where
     Ok sequence_ended
   reads_as sei_unit before u = cond (is_within_picture (current before)) (Ok dropped) (gathers before (R.sei (rbsp_of u)))
 
-  -- a unit: of the base layer, unless its reserved bit is 1 (7.4.2.2)
+  -- A unit: of the base layer, unless its reserved bit is 1 (7.4.2.2).
   abbrev pub reads : List Reading → List ℕ → Result Reading Refusal
   reads before u =
       cond (is_reserved u) (Ok dropped)

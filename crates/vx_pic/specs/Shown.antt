@@ -4,10 +4,10 @@ use Rattle.vx_bits.specs.declared.list.Item.{Item}
 use Rattle.vx_pic.specs.declared.structure.Structure.{Structure}
 use Rattle.vx_pic.specs.declared.structure.StructureFields.{StructureFields}
 
--- of no structure
+-- Of no structure.
 abbrev pub no_fields : StructureFields
 no_fields = record { structure = None; items = []; body = None }
 
--- of one that has no body
+-- Of one that has no body.
 abbrev pub fields_of : Structure → List Item → StructureFields
 fields_of structure items = record { structure = Some structure; items = items; body = None }

@@ -11,36 +11,36 @@ pub record StreamReading : Type 0 where
   pub before : List Reading
   pub refusal : Option Refusal
 
--- units that were read as these, and no refusal
+-- Units that were read as these, and no refusal.
 abbrev pub all_read : List Reading → StreamReading
 all_read before = record { before = before; refusal = None }
 
 abbrev pub stopped : List Reading → Refusal → StreamReading
 stopped before r = record { before = before; refusal = Some r }
 
--- a unit behind these, and what follows where it is read
+-- A unit after these, and what follows where it is read.
 abbrev pub one_more : Result Reading Refusal → List Reading → (List Reading → StreamReading) → StreamReading
 one_more (Ok r) before rest = rest (r ∷ before)
 one_more (Err r) before rest = stopped before r
 
--- units one behind another, each behind those before it
+-- Units one after another, each after those before it.
 abbrev pub read_on : Readers → List Reading → List (List ℕ) → StreamReading
 read_on R before [] = all_read before
 read_on R before (u ∷ units) = one_more (reads R before u) before (λ after. read_on R after units)
 
--- what follows where none is refused
+-- What follows where none is refused.
 abbrev pub unless_refused : Option Refusal → List Reading → (List Reading → StreamReading) → StreamReading
 unless_refused None before rest = rest before
 unless_refused (Some r) before rest = stopped before r
 
--- the pictures of a list of units, the latest first
+-- The pictures of a list of units, the latest first.
 abbrev pub pictures_of : Readers → List (List ℕ) → List Picture
 pictures_of R units = pictures (read_on R [] units).before
 
--- a picture lacks a slice at the end of the units
+-- A picture lacks a slice at the end of the units.
 abbrev pub lacks_slice : List Reading → Option Refusal
 lacks_slice before = cond (is_open (current before)) (Some (structure SLICE_MISSING)) None
 
--- how units end that are all there are: at the first that is refused, or there
+-- How units end that are all there are: at the first that is refused, or there.
 abbrev pub ending_of : StreamReading → Option Refusal
 ending_of o = option_or o.refusal (lacks_slice o.before)

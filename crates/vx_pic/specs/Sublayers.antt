@@ -6,16 +6,16 @@ use Rattle.vx_pic.specs.Readings.{Picture}
 use Rattle.vx_pic.specs.Rules.{Readers}
 use Rattle.vx_pic.specs.Finished.{AreFinished}
 
--- those that are kept (C.6)
+-- Those that are kept (C.6).
 abbrev pub at_most : ℕ → List Picture → List Picture
 at_most tid ps = filter (λ p. nat_le p.kind.temporal_id tid) ps
 
--- no IRAP or GDR picture is left out (our own)
+-- No IRAP or GDR picture is left out (our own).
 abbrev pub KeepsStarts : ℕ → List Picture → Type 0
 KeepsStarts tid ps = AllByRecursion (λ p. nat_le p.kind.temporal_id tid ≡ false → is_irap_or_gdr p.kind.nal_type ≡ false) ps
 
--- Then those that are kept come behind one another as pictures of a stream do: with the same kinds, so that a sequence ended and a coded
--- layer video sequence starts where one did, with the same counts (8.3.1), and with one SPS in such a sequence.
+-- Then those that are kept come after one another as pictures of a stream do: with the same kinds, so that a sequence ended and
+-- a coded layer video sequence starts where one did, with the same counts (8.3.1), and with one SPS in such a sequence.
 abbrev pub KeptAreFinished : Type 0
 KeptAreFinished = (R : Readers) (tid : ℕ) (ps : List Picture) → AreFinished R ps → KeepsStarts tid ps → AreFinished R (at_most tid ps)
 

@@ -8,10 +8,10 @@ use Rattle.vx_pic.specs.Readings.{Begun}
 use Rattle.vx_pic.specs.PictureLayout.{ids_of}
 use Rattle.vx_sh.specs.InForce.{at_sets}
 
--- the picture header, with the lists that its items come to
+-- The picture header, with the lists that its items come to.
 abbrev pub picture_header_of : Begun → PictureHeader
 picture_header_of b = record { fields = b.header; lists = lists_of (structures b.sps) (in_force b.sps b.pps) b.header }
 
--- the place of a slice of this type in the picture
+-- The place of a slice of this type in the picture.
 abbrev pub at_slice_of : ℕ → Begun → At
 at_slice_of nal_type b = at_sets nal_type b.sps b.pps (picture_header_of b) (ids_of b.sps b.pps) b.layout

@@ -24,15 +24,15 @@ PicturesHaveSets = (R : Readers) (units : List (List ℕ)) → AllByRecursion (�
 
 -- ---- slices
 
--- the slices of subpicture k, in the order of the units
+-- The slices of subpicture k, in the order of the units.
 abbrev pub subpic_slices : Picture → ℕ → List Slice
 subpic_slices p k = filter (λ s. s.header.subpic == k) p.slices
 
--- each subpicture has one
+-- Each subpicture has one.
 abbrev pub HasEach : Picture → Type 0
 HasEach p = (k : ℕ) → k < length p.begun.layout.subpics → 0 < length (subpic_slices p k)
 
--- and exactly those of its layout, in the order of their addresses 0, 1, .. (7.4.8, sh_slice_address)
+-- Exactly those of its layout, in the order of their addresses 0, 1, .. (7.4.8, sh_slice_address).
 abbrev pub HasAllInOrder : Picture → Type 0
 HasAllInOrder p = (k : ℕ) → k < length p.begun.layout.subpics
     → map (λ s. address_of s.header) (subpic_slices p k) ≡ range_with_len 0 (length (slices_in p.begun.layout k))

@@ -26,13 +26,13 @@ pub data Set : Type 0 where
   a_pps : List Item → Set
   an_aps : Aps → Set
 
--- what its unit is read as
+-- What its unit is read as.
 abbrev pub set_reading : Set → Reading
 set_reading (an_sps s) = sps_read s
 set_reading (a_pps p) = pps_read p
 set_reading (an_aps a) = aps_read a
 
--- it is in force: the last of its id
+-- It is in force: the last of its id.
 abbrev pub IsStored : List Reading → Set → Type 0
 IsStored before (an_sps s) = stored_sps (sps_id s) before ≡ Some s
 IsStored before (a_pps p) = stored_pps (pps_id p) before ≡ Some p
@@ -67,20 +67,20 @@ abbrev pub messages_sent : Option SeiUnit → List Message
 messages_sent None = []
 messages_sent (Some s) = s.messages
 
--- end_of_seq_rbsp( ) is empty (7.3.2.11): the unit is its header, of type EOS_NUT and TemporalId 0
+-- end_of_seq_rbsp( ) is empty (7.3.2.11): the unit is its header, of type EOS_NUT and TemporalId 0.
 abbrev pub eos_unit : List ℕ
 eos_unit = 0 ∷ 169 ∷ []
 
--- where one is marked (our own)
+-- Where one is marked (our own).
 abbrev pub eos_units : Bool → List (List ℕ)
 eos_units after_eos = cond after_eos (eos_unit ∷ []) []
 
--- that of the messages (our own)
+-- That of the messages (our own).
 abbrev pub sei_units : Option SeiUnit → List (List ℕ)
 sei_units None = []
 sei_units (Some s) = s.unit ∷ []
 
--- its units: an end of sequence where one is marked, the sets, the messages, the PH unit where it has one, and the slices
+-- Its units: an end of sequence where one is marked, the sets, the messages, the PH unit where it has one, and the slices.
 abbrev pub units_of : Plan → List (List ℕ)
 units_of p =
     eos_units p.kind.after_eos
@@ -88,7 +88,7 @@ units_of p =
     ++ (sei_units p.sei
     ++ (option_to_list p.begun.unit ++ map (λ s. s.unit) (planned_slices p))))
 
--- what these are read as
+-- What these are read as.
 abbrev pub eos_readings : Bool → List Reading
 eos_readings after_eos = cond after_eos (sequence_ended ∷ []) []
 
@@ -113,53 +113,53 @@ readings_of p =
     ++ (sei_readings p.sei
     ++ (header_readings p.begun.unit p.begun ++ slice_readings p)))
 
--- readings behind others; `before` has the latest first
+-- Readings after others; `before` has the latest first.
 abbrev pub readings_after : List Reading → List Reading → List Reading
 readings_after before [] = before
 readings_after before (r ∷ readings) = readings_after (r ∷ before) readings
 
--- what comes before its header, and before its first slice
+-- What comes before its header, and before its first slice.
 abbrev pub before_header : List Reading → Plan → List Reading
 before_header before p = readings_after (readings_after (readings_after before (eos_readings p.kind.after_eos)) (set_readings p.sent)) (sei_readings p.sei)
 
 abbrev pub before_slices : List Reading → Plan → List Reading
 before_slices before p = readings_after (before_header before p) (header_readings p.begun.unit p.begun)
 
--- the picture
+-- The picture.
 abbrev pub planned : List Reading → Plan → Picture
 planned before p = record { begun = p.begun; kind = p.kind; before = before_slices before p; slices = planned_slices p }
 
 -- ---- what is asked of a plan
 
--- a stream can go on here: no picture lacks a slice, and nothing came since the last slice
+-- A stream can go on here: no picture lacks a slice, and nothing came since the last slice.
 pub record Rests (before : List Reading) : Type 0 where
   pub closed : is_open (current before) ≡ false
   pub goes_on : is_ended before ≡ false
   pub none : gathered before ≡ []
 
--- a unit of this class, of the base layer
+-- A unit of this class, of the base layer.
 pub record IsPlain (u : List ℕ) (c : Class) : Type 0 where
   pub reserved : is_reserved u ≡ false
   pub layer : nuh_layer_id u ≡ 0
   pub class : class_of (nal_unit_type u) ≡ c
 
--- the slices stand in the picture's order, from this place on
+-- The slices stand in the picture's order, from this place on.
 abbrev pub AreInOrder : Begun → ℕ → List Slice → Type 0
 AreInOrder b n [] = Unit {0}
 AreInOrder b n (s ∷ more) = (slices_before b.layout s.header ≡ n) × AreInOrder b (n + 1) more
 
--- each of these sets is in force
+-- Each of these sets is in force.
 abbrev pub AreInForce : List Reading → List Slot → Type 0
 AreInForce before slots = AllByRecursion (λ slot. is_none (stored_aps slot.kind slot.id before) ≡ false) slots
 
 module _ (R : Readers) where
-  -- the unit is read as the set
+  -- The unit is read as the set.
   abbrev pub Says : List ℕ → Set → Type 0
   Says u (an_sps s) = IsPlain u sps_unit × (R.sps (rbsp_of u) ≡ Ok s)
   Says u (a_pps p) = IsPlain u pps_unit × (R.pps (rbsp_of u) ≡ Ok p)
   Says u (an_aps a) = IsPlain u prefix_aps × (R.aps (rbsp_of u) ≡ Ok (Some a))
 
-  -- the header is read from the unit, in a slice or not, under its sets
+  -- The header is read from the unit, in a slice or not, under its sets.
   pub record HeaderReads (inside : Bool) (u : List ℕ) (b : Begun) : Type 0 where
     pub referred : R.referred_pps inside (rbsp_of u) ≡ Ok (pps_id b.pps)
     pub size : same_size b.sps b.pps ≡ true
@@ -167,12 +167,12 @@ module _ (R : Readers) where
     pub header : R.header inside b.sps b.pps (rbsp_of u) ≡ Ok b.header
     pub tid : temporal_id u ≡ b.temporal_id
 
-  -- from its PH unit, or from its only slice
+  -- From its PH unit, or from its only slice.
   abbrev pub HeadReads : Option (List ℕ) → Begun → Slice → Type 0
   HeadReads (Some u) b first = IsPlain u header_unit × HeaderReads false u b × (has_header_inside first.unit ≡ false)
   HeadReads None b first = HeaderReads true first.unit b × (has_header_inside first.unit ≡ true) × (length b.layout.slices ≤ 1)
 
-  -- the slice is read under the header, in a picture of this type
+  -- The slice is read under the header, in a picture of this type.
   pub record SliceReads (b : Begun) (t : ℕ) (s : Slice) : Type 0 where
     pub plain : IsPlain s.unit slice_unit
     pub tid : temporal_id s.unit ≡ b.temporal_id
@@ -181,12 +181,12 @@ module _ (R : Readers) where
     pub qp : is_qp b.sps (slice_qp b.pps b.header s.header) ≡ true
     pub payload : s.header.payload < length s.unit
 
-  -- the messages are read from their unit
+  -- The messages are read from their unit.
   abbrev pub SeiReads : Option SeiUnit → Type 0
   SeiReads None = Unit {0}
   SeiReads (Some s) = IsPlain s.unit sei_unit × (R.sei (rbsp_of s.unit) ≡ s.messages) × (spelled_length s.messages ≤ message_limit)
 
-  -- The units of a plan are read as the plan says, behind these readings.
+  -- The units of a plan are read as the plan says, after these readings.
   pub record IsWritten (before : List Reading) (p : Plan) : Type 0 where
     pub sets : AllByRecursion (λ x. Says x.unit x.set) p.sent
     pub sei : SeiReads p.sei

@@ -9,12 +9,12 @@ use Rattle.vx_layout.specs.Shapes.{AreListable}
 use Rattle.vx_pps.specs.declared.tiles.Tiles.{Tiles}
 use Rattle.vx_pps.specs.Tiles.{IsGrid, across, block, column, down, row, tile, tile_behind}
 
--- one slice of so many tiles across and down from a tile on, or the slices of a tile, of these heights (our own)
+-- One slice of so many tiles across and down from a tile on, or the slices of a tile, of these heights (our own).
 pub data Group : Type 0 where
   whole : ℕ → ℕ → ℕ → Group
   cut : ℕ → List ℕ → Group
 
--- its first tile, and its tiles across and down (our own)
+-- Its first tile, and its tiles across and down (our own).
 abbrev pub first_tile_of : Group → ℕ
 first_tile_of (whole t wide high) = t
 first_tile_of (cut t heights) = t
@@ -27,45 +27,45 @@ abbrev pub high_of : Group → ℕ
 high_of (whole t wide high) = high
 high_of (cut t heights) = 1
 
--- rows of a tile from CTU row y on, under one another, as slices (SliceHeightInCtus, 6.5.1)
+-- Rows of a tile from CTU row y on, under one another, as slices (SliceHeightInCtus, 6.5.1).
 abbrev pub strips : Rect → ℕ → List ℕ → List Rect
 strips t y [] = []
 strips t y (height ∷ heights) = record { x = t.x; y = y; w = t.w; h = height } ∷ strips t (y + height) heights
 
--- the slices of a group (6.5.1)
+-- The slices of a group (6.5.1).
 abbrev pub slices_of_group : Tiles → Group → List Rect
 slices_of_group g (whole t wide high) = block g t wide high ∷ []
 slices_of_group g (cut t heights) = strips (tile g t) (tile g t).y heights
 
--- the slices of groups, one group behind another (our own)
+-- The slices of groups, one group after another (our own).
 abbrev pub slices_of_all : Tiles → List Group → List Rect
 slices_of_all g [] = []
 slices_of_all g (group ∷ groups) = slices_of_group g group ++ slices_of_all g groups
 
--- the group lies in the picture, and the slices of a tile, two or more, fill it (our own)
+-- The group lies in the picture, and the slices of a tile, two or more, fill it (our own).
 abbrev pub Lies : Tiles → Group → Type 0
 Lies g (whole t wide high) = (1 ≤ wide) × (1 ≤ high) × (column g t + wide ≤ across g) × (row g t + high ≤ down g)
 Lies g (cut t heights) = (2 ≤ length heights) × All (λ h. 1 ≤ h) heights × (sum heights ≡ (tile g t).h)
 
--- whether pps_slice_height_in_tiles_minus1 can be spelled of a slice that begins at tile t: where tile indices are, or in the
--- first column; elsewhere the slice has the height of the one before (7.3.2.5)
+-- Whether pps_slice_height_in_tiles_minus1 can be spelled of a slice that begins at tile t: where tile indices are, or in the
+-- first column; elsewhere the slice has the height of the one before (7.3.2.5).
 abbrev pub spells_height : Tiles → Bool → ℕ → Bool
 spells_height g deltas t = deltas || column g t == 0
 
--- the group begins at a tile and lies in the picture; where its height isn't spelled, it has the one before's, less 1,
--- but in the last row (7.3.2.5, 7.4.3.5)
+-- The group begins at a tile and lies in the picture; where its height isn't spelled, it has the one before's, less 1, but in
+-- the last row (7.3.2.5, 7.4.3.5).
 pub record GroupStands (g : Tiles) (deltas : Bool) (before : ℕ) (group : Group) : Type 0 where
   pub inside : first_tile_of group < across g * down g
   pub lies : Lies g group
   pub height : spells_height g deltas (first_tile_of group) ≡ false → row g (first_tile_of group) + 1 < down g → before ≡ high_of group - 1
 
--- a slice of whole tiles reaches to the last column and row (7.4.3.5)
+-- A slice of whole tiles reaches to the last column and row (7.4.3.5).
 abbrev pub Ends : Tiles → Group → Type 0
 Ends g (whole t wide high) = (column g t + wide ≡ across g) × (row g t + high ≡ down g)
 Ends g (cut t heights) = Unit {0}
 
--- groups that can be listed behind a slice that is so high, less 1: each stands where the list leads, and the last one
--- ends the picture (7.3.2.5, 7.4.3.5)
+-- Groups that can be listed after a slice that is so high, less 1: each stands where the list leads, and the last one ends the
+-- picture (7.3.2.5, 7.4.3.5).
 abbrev pub Follow : Tiles → Bool → ℕ → List Group → Type 0
 Follow g deltas before [] = ⊥
 Follow g deltas before (group ∷ []) = GroupStands g deltas before group × Ends g group
@@ -74,7 +74,7 @@ Follow g deltas before (group ∷ next ∷ more) =
     × (deltas ≡ false → first_tile_of next ≡ tile_behind g (first_tile_of group) (wide_of group - 1) (high_of group - 1))
     × Follow g deltas (high_of group - 1) (next ∷ more)
 
--- slices that cover a picture of these tiles in order, and that a slice list can name
+-- Slices that cover a picture of these tiles in order, and that a slice list can name.
 pub record IsList (g : Tiles) (slices : List Rect) : Type 0 where
   pub grid : IsGrid g
   pub columns : Rises g.columns
@@ -84,7 +84,7 @@ pub record IsList (g : Tiles) (slices : List Rect) : Type 0 where
   pub parts : All (IsPart (last g.columns) (last g.rows)) slices
   pub listable : AreListable g.columns g.rows slices
 
--- groups whose slices they are, and which can be listed, with tile indices or without (our own)
+-- Groups whose slices they are, and which can be listed, with tile indices or without (our own).
 pub record InGroups (g : Tiles) (deltas : Bool) (slices : List Rect) : Type 0 where
   pub group : Group
   pub groups : List Group

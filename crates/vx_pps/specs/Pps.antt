@@ -24,22 +24,22 @@ use Rattle.vx_pps.specs.Written.{Gives}
 
 -- ---- the form (7.3.2.5)
 
--- before tiles and slices (7.3.2.5)
+-- Before tiles and slices (7.3.2.5).
 abbrev pub before_tiles : List Section
 before_tiles = always tables.IDS ∷ always tables.NAL_TYPES ∷ always tables.SIZE ∷ always tables.OUTPUT ∷ always tables.SUBPIC_IDS ∷ []
 
--- behind them: the tools of slices, what stands in picture headers, and the end (7.3.2.5)
+-- After them: the tools of slices, what stands in picture headers, and the end (7.3.2.5).
 abbrev pub after_slices : List Section
 after_slices = always tables.PREDICTION ∷ always tables.INIT_QP ∷ always tables.QP_OFFSETS ∷ always tables.DBF_CONTROL
     ∷ always tables.DBF_INFO ∷ always tables.DBF_OFFSETS ∷ always tables.HEADER_INFO ∷ always tables.END ∷ []
 
--- the tiles and slices of a picture of that size (7.3.2.5)
+-- The tiles and slices of a picture of that size (7.3.2.5).
 abbrev pub partition_at : List ℕ → Form Partition
 partition_at s =
     partition (slice_index s pps.pps_no_pic_partition_flag) (slice_index s pps.pps_pic_width_in_luma_samples)
     (slice_index s pps.pps_pic_height_in_luma_samples)
 
--- pic_parameter_set_rbsp(), at whose end stand its tiles and slices (7.3.2.5)
+-- pic_parameter_set_rbsp(), at whose end stand its tiles and slices (7.3.2.5).
 unfoldable pub pps_form : Form Partition
 pps_form = do
   s ← sections_form before_tiles fresh
@@ -56,7 +56,7 @@ ReadsFields rbsp items (Err (errors.Refused r)) after =
 
 -- ---- what its items tell (7.4.3.5)
 
--- the items are those of a picture parameter set, which has these tiles and slices (7.3.2.5)
+-- The items are those of a picture parameter set, which has these tiles and slices (7.3.2.5).
 abbrev pub IsPps : List Item → Partition → Type 0
 IsPps items end = Gives pps_form items end
 
@@ -64,7 +64,7 @@ pub record ArePpsItems (items : List Item) : Type 0 where
   pub end : Partition
   pub set : IsPps items end
 
--- those that it has (our own)
+-- Those that it has (our own).
 abbrev pub or_none : Option Partition → Partition
 or_none (Some end) = end
 or_none None = undivided
@@ -72,30 +72,31 @@ or_none None = undivided
 abbrev pub partition_of : List Item → Partition
 partition_of items = or_none (end_along pps_form (values_in pps_form items))
 
--- pps_no_pic_partition_flag is 0: the picture may have several tiles and slices (7.4.3.5)
+-- pps_no_pic_partition_flag is 0: the picture may have several tiles and slices (7.4.3.5).
 abbrev pub is_partitioned : List Item → Bool
 is_partitioned items = not (is_set (loading.number items pps.pps_no_pic_partition_flag))
 
--- the bounds of the tile columns and rows of such a picture, in CTUs (6.5.1)
+-- The bounds of the tile columns and rows of such a picture, in CTUs (6.5.1).
 abbrev pub tile_columns_of : List Item → List ℕ
 tile_columns_of items = (partition_of items).tiles.columns
 
 abbrev pub tile_rows_of : List Item → List ℕ
 tile_rows_of items = (partition_of items).tiles.rows
 
--- its slices, unless each subpicture is one (6.5.1)
+-- Its slices, unless each subpicture is one (6.5.1).
 abbrev pub slice_list_of : List Item → Option (List Rect)
 slice_list_of items = (partition_of items).slices
 
--- the active entries of list 0 and of list 1 where a slice says nothing, less 1 (pps_num_ref_idx_default_active_minus1, 7.4.3.5)
+-- The active entries of list 0 and of list 1 where a slice says nothing, less 1 (pps_num_ref_idx_default_active_minus1,
+-- 7.4.3.5).
 abbrev pub default_active : List Item → ℕ → ℕ
 default_active items list = slice_index (numbers_of items pps.pps_num_ref_idx_default_active_minus1) list
 
--- the kept fields: those without a star; no field of the tiles and slices, which stand in no table, is one (our own)
+-- The kept fields: those without a star; no field of the tiles and slices, which stand in no table, is one (our own).
 abbrev pub kept_pps_fields : List ℕ
 kept_pps_fields = unstarred (before_tiles ++ after_slices)
 
--- the items of its kept fields; those that say what stands in picture headers, also where they are absent, as 0 (our own)
+-- The items of its kept fields; those that say what stands in picture headers, also where they are absent, as 0 (our own).
 abbrev pub kept_pps_items : List Item → List Item
 kept_pps_items items = kept_along pps_form (values_in pps_form items)
 

@@ -1,4 +1,4 @@
--- The rewritten picture parameter set: what it takes over from its source, and what it states (H.266 7.3.2.5).
+-- The rewritten picture parameter set: what it copies from its source, and what it states (H.266 7.3.2.5).
 use Rattle.std.specs.Prelude.{◌≡◌, ◌==◌, ℕ, ℤ, pos, ◌+◌, ◌-◌, ◌*◌, ◌^◌, ◌<◌, ◌≤◌, ◌≤ℤ◌, ◌%◌, neg_ℤ, Bool, true, false, cond, ◌&&◌, ◌||◌, nat_lt}
 use Rattle.std.specs.Prelude.{List, [], ◌∷◌, ◌++◌, length, Option, Some, None, IfSome}
 use Rattle.std.specs.Int.{div_ceil}
@@ -29,15 +29,15 @@ use Rattle.vx_table.specs.Rewritten.{where_so}
 
 -- ---- what is stated, in the order of the syntax (7.3.2.5; what is stated is our own choice)
 
--- an item with the number that the source's last one gives the field: 0 where it has none (our own)
+-- An item with the number that the source's last one gives the field: 0 where it has none (our own).
 abbrev pub items_of_source : List Item → ℕ → List Item
 items_of_source source of = only_item of (pos (number source of))
 
--- pps_no_pic_partition_flag: a frame is partitioned, and a region where its source is (7.3.2.5)
+-- pps_no_pic_partition_flag: a frame is partitioned, and a region where its source is (7.3.2.5).
 abbrev pub whole_flag : List Item → PpsShape → ℕ
 whole_flag source shape = cond shape.merged 0 (number source pps.pps_no_pic_partition_flag)
 
--- the id of the one subpicture, where this set has it (7.3.2.5)
+-- The id of the one subpicture, where this set has it (7.3.2.5).
 abbrev pub pps_subpic_id_items : ℕ → Option (ℕ × ℕ) → List Item
 pps_subpic_id_items whole None = only_item pps.pps_subpic_id_mapping_present_flag (pos 0)
 pps_subpic_id_items whole (Some (bits, id)) =
@@ -45,7 +45,7 @@ pps_subpic_id_items whole (Some (bits, id)) =
     ++ (where_so (whole == 0) (only_item pps.pps_num_subpics_minus1 (pos 0))
     ++ (only_item pps.pps_subpic_id_len_minus1 (pos bits) ++ only_item pps.pps_subpic_id (pos id)))
 
--- ids, size, no conformance window, whether it is partitioned (7.3.2.5)
+-- Ids, size, no conformance window, whether it is partitioned (7.3.2.5).
 abbrev pub front_items : ℕ → PpsShape → List Item
 front_items whole shape =
     only_item pps.pps_pic_parameter_set_id (pos shape.id)
@@ -56,16 +56,16 @@ front_items whole shape =
     ++ (only_item pps.pps_no_pic_partition_flag (pos whole)
     ++ pps_subpic_id_items whole shape.subpic_id)))))
 
--- the flags of several tiles (7.3.2.5)
+-- The flags of several tiles (7.3.2.5).
 abbrev pub tile_flag_items : PpsShape → List Item
 tile_flag_items shape = where_so (nat_lt 1 (across shape.tiles * down shape.tiles))
     (only_item pps.pps_loop_filter_across_tiles_enabled_flag (pos (one_if shape.across_tiles)) ++ only_item pps.pps_rect_slice_flag (pos 1))
 
--- tile indices are spelled of three slices and more (our own)
+-- Tile indices are spelled of three slices and more (our own).
 abbrev pub has_deltas : PpsShape → Bool
 has_deltas shape = nat_lt 2 (length shape.slices)
 
--- the number of the slices, their list, tile by tile, and whether loop filters cross their borders (7.3.2.5)
+-- The number of the slices, their list, tile by tile, and whether loop filters cross their borders (7.3.2.5).
 abbrev pub slice_list_items : PpsShape → List Group → List Item
 slice_list_items shape groups =
     only_item pps.pps_num_slices_in_pic_minus1 (pos (length shape.slices - 1))
@@ -73,7 +73,7 @@ slice_list_items shape groups =
     ++ (list_items shape.tiles (has_deltas shape) groups
     ++ where_so (nat_lt 1 (length shape.slices)) (only_item pps.pps_loop_filter_across_slices_enabled_flag (pos (one_if shape.across_slices)))))
 
--- all tile columns and rows, each with its size (7.3.2.5)
+-- All tile columns and rows, each with its size (7.3.2.5).
 abbrev pub tile_items : PpsShape → List Item
 tile_items shape =
     only_item pps.pps_num_exp_tile_columns_minus1 (pos (across shape.tiles - 1))
@@ -81,7 +81,7 @@ tile_items shape =
     ++ (tile_size_items pps.pps_tile_column_width_minus1 (sizes_between shape.tiles.columns)
     ++ tile_size_items pps.pps_tile_row_height_minus1 (sizes_between shape.tiles.rows)))
 
--- the CTU size, the tiles, and the slices in these groups (7.3.2.5)
+-- The CTU size, the tiles, and the slices in these groups (7.3.2.5).
 abbrev pub divided_items : PpsShape → List Group → List Item
 divided_items shape groups =
     only_item pps.pps_log2_ctu_size_minus5 (pos (powers_below 32 shape.ctb - 5))
@@ -90,18 +90,18 @@ divided_items shape groups =
     ++ (only_item pps.pps_single_slice_per_subpic_flag (pos 0)
     ++ slice_list_items shape groups)))
 
--- what is said of tiles and slices: each group has slices of whole tiles, or the slices of one tile
+-- What is said of tiles and slices: each group has slices of whole tiles, or the slices of one tile.
 pub record Divides (shape : PpsShape) (items : List Item) : Type 0 where
   pub groups : InGroups shape.tiles (has_deltas shape) shape.slices
   pub same : items ≡ divided_items shape (groups.group ∷ groups.groups)
 
--- nothing is said of a picture that isn't partitioned
+-- Nothing is said of a picture that isn't partitioned.
 abbrev pub IsDivision : Bool → PpsShape → List Item → Type 0
 IsDivision true shape items = items ≡ []
 IsDivision false shape items = Divides shape items
 
--- of a frame's tools: the QP, and what stands in picture headers, as the source has it, but for the adaptive loop filter and the
--- QP, which stand in slice headers (7.3.2.5)
+-- Of a frame's tools: the QP, and what stands in picture headers, as the source has it, except for the adaptive loop filter and
+-- the QP, which stand in slice headers (7.3.2.5).
 abbrev pub has_weights : List Item → Bool
 has_weights source =
     (is_set (number source pps.pps_weighted_pred_flag) || is_set (number source pps.pps_weighted_bipred_flag))
@@ -124,7 +124,7 @@ frame_tool_items source init_qp =
 abbrev pub tool_items : List Item → PpsShape → List Item
 tool_items source shape = where_so shape.merged (frame_tool_items source shape.init_qp)
 
--- all that is stated
+-- All that is stated.
 pub record IsStated (source : List Item) (shape : PpsShape) (items : List Item) : Type 0 where
   pub division : List Item
   pub divides : IsDivision (is_set (whole_flag source shape)) shape division
@@ -132,13 +132,13 @@ pub record IsStated (source : List Item) (shape : PpsShape) (items : List Item) 
 
 -- ---- shapes
 
--- a width or height in luma samples
+-- A width or height in luma samples.
 pub record IsSize (n : ℕ) : Type 0 where
   pub some : 0 < n
   pub small : n ≤ 16384
   pub whole : n % 8 ≡ 0
 
--- a picture of these tiles and slices, as one subpicture
+-- A picture of these tiles and slices, as one subpicture.
 abbrev pub picture_of : Tiles → List Rect → Numbers
 picture_of g slices = record {
   columns = g.columns;
@@ -147,7 +147,7 @@ picture_of g slices = record {
   subpics = whole_picture (last g.columns) (last g.rows) ∷ [];
 }
 
--- tiles and slices of a picture of that size: they have a layout as one subpicture, and a slice list can name the slices
+-- Tiles and slices of a picture of that size: they have a layout as one subpicture, and a slice list can name the slices.
 pub record CanBeDivided (shape : PpsShape) : Type 0 where
   pub ctb : (log2 : ℕ) × (log2 < 3) × (shape.ctb ≡ 2 ^ (log2 + 5))
   pub columns : last shape.tiles.columns ≡ div_ceil shape.width shape.ctb
@@ -155,7 +155,7 @@ pub record CanBeDivided (shape : PpsShape) : Type 0 where
   pub layout : HasLayout (picture_of shape.tiles shape.slices)
   pub listable : AreListable shape.tiles.columns shape.tiles.rows shape.slices
 
--- numbers that a set can have
+-- Numbers that a set can have.
 pub record IsShape (source : List Item) (shape : PpsShape) : Type 0 where
   pub id : shape.id < 64
   pub sps_id : shape.sps_id < 16
@@ -167,12 +167,12 @@ pub record IsShape (source : List Item) (shape : PpsShape) : Type 0 where
 
 -- ---- the rewritten set (our own)
 
--- the fields that are taken over for a region: the kept fields, the QP, and where filter and QP stand; and the gap at the end
+-- The fields that are copied for a region: the kept fields, the QP, and where filter and QP stand; and the gap at the end.
 abbrev pub taken_for_region : List ℕ
 taken_for_region = pps.pps_init_qp_minus26 ∷ pps.pps_alf_info_in_ph_flag ∷ pps.pps_qp_delta_info_in_ph_flag ∷ pps.pps_rbsp_trailing_bits
     ∷ kept_pps_fields
 
--- and for a frame: the kept fields, but for those that say what stands in picture headers; and this gap
+-- For a frame: the kept fields, except for those that say what stands in picture headers; and this gap.
 abbrev pub tools_for_frame : List Section
 tools_for_frame = always tables.PREDICTION ∷ always tables.QP_OFFSETS ∷ always tables.DBF_CONTROL ∷ always tables.DBF_OFFSETS
     ∷ always tables.END ∷ []
@@ -183,7 +183,7 @@ taken_for_frame = pps.pps_rbsp_trailing_bits ∷ unstarred (before_tiles ++ tool
 abbrev pub taken : PpsShape → List ℕ
 taken shape = cond shape.merged taken_for_frame taken_for_region
 
--- The items are those of a set. Those of the fields that are taken over are the source's, and the others are exactly what is
+-- The items are those of a set. Those of the fields that are copied are the source's, and the others are exactly what is
 -- stated.
 pub record IsReshapedPps (source : List Item) (shape : PpsShape) (items : List Item) : Type 0 where
   pub others : List Item
@@ -211,14 +211,14 @@ FrameKeeps =
 
 -- ---- what it says
 
--- the id of its one subpicture, in so many bits, less 1
+-- The id of its one subpicture, in so many bits, less 1.
 pub record MapsId (bits id : ℕ) (items : List Item) : Type 0 where
   pub mapped : number items pps.pps_subpic_id_mapping_present_flag ≡ 1
   pub id_len : number items pps.pps_subpic_id_len_minus1 ≡ bits
   pub ids : numbers_of items pps.pps_subpic_id ≡ id ∷ []
 
--- of a picture that is partitioned, the size of CTUs, and whether loop filters cross the borders of tiles and of slices, where there
--- are several
+-- Of a picture that is partitioned, the size of CTUs, and whether loop filters cross the borders of tiles and of slices, where
+-- there are several.
 pub record TellsDivision (shape : PpsShape) (items : List Item) : Type 0 where
   pub ctb : (log2 : ℕ) → log2 < 3 → shape.ctb ≡ 2 ^ (log2 + 5) → number items pps.pps_log2_ctu_size_minus5 ≡ log2
   pub across_tiles : 1 < across shape.tiles * down shape.tiles

@@ -3,23 +3,23 @@ use Rattle.std.specs.Prelude.{◌==◌, ℕ, ◌+◌, ◌-◌, ◌*◌, ◌/◌,
 use Rattle.vx_layout.specs.declared.rect.Rect.{Rect}
 use Rattle.vx_pps.specs.declared.tiles.Tiles.{Tiles}
 
--- NumTileColumns (6.5.1)
+-- NumTileColumns (6.5.1).
 abbrev pub across : Tiles → ℕ
 across g = length g.columns - 1
 
--- NumTileRows (6.5.1)
+-- NumTileRows (6.5.1).
 abbrev pub down : Tiles → ℕ
 down g = length g.rows - 1
 
--- the column of tile t (6.5.1)
+-- The column of tile t (6.5.1).
 abbrev pub column : Tiles → ℕ → ℕ
 column g t = t % across g
 
--- the row of tile t (6.5.1)
+-- The row of tile t (6.5.1).
 abbrev pub row : Tiles → ℕ → ℕ
 row g t = t / across g
 
--- so many tiles across and down from tile t on, as a rectangle of CTUs (our own)
+-- So many tiles across and down from tile t on, as a rectangle of CTUs (our own).
 abbrev pub block : Tiles → ℕ → ℕ → ℕ → Rect
 block g t wide high = record {
   x = slice_index g.columns (column g t);
@@ -28,16 +28,16 @@ block g t wide high = record {
   h = slice_index g.rows (row g t + high) - slice_index g.rows (row g t);
 }
 
--- tile t (6.5.1)
+-- Tile t (6.5.1).
 abbrev pub tile : Tiles → ℕ → Rect
 tile g t = block g t 1 1
 
--- the tile where the slice behind one of so many tiles across and down, less 1 each, begins, where it isn't spelled:
--- the one beside the slice, or at the end of the columns the first one below it (6.5.1, SliceTopLeftTileIdx)
+-- The tile where the slice after one of so many tiles across and down, less 1 each, begins, where it isn't spelled: the one
+-- beside the slice, or at the end of the columns the first one below it (6.5.1, SliceTopLeftTileIdx).
 abbrev pub tile_behind : Tiles → ℕ → ℕ → ℕ → ℕ
 tile_behind g t width height = t + (width + 1) + cond ((t + (width + 1)) % across g == 0) (height * across g) 0
 
--- one to 512 tile columns and tile rows, of a picture of no great height
+-- One to 512 tile columns and tile rows, of a picture of no great height.
 pub record IsGrid (g : Tiles) : Type 0 where
   pub columns : (2 ≤ length g.columns) × (length g.columns ≤ 513)
   pub rows : (2 ≤ length g.rows) × (length g.rows ≤ 513)

@@ -31,7 +31,7 @@ zeros_at over (Field c) = zeros_over over c.coding c.field
 zeros_at over (Block presence n) = over
 zeros_at over (Name name formula) = over
 
--- each field's coding, and the zeros before it in its table
+-- Each field's coding, and the zeros before it in its table.
 abbrev pub code_at : ℕ → Row → List FieldCode → List FieldCode
 code_at over (Field c) codes =
     slice_set codes c.field (record { coding = fixed_coding c.coding; zeros = zeros_over over c.coding c.field })
@@ -45,36 +45,36 @@ codes_of over (row ∷ rows) codes = codes_of (zeros_at over row) rows (code_at 
 abbrev pub no_code : FieldCode
 no_code = record { coding = None; zeros = 0 }
 
--- by the number of the field
+-- By the number of the field.
 unfoldable pub field_codes : List FieldCode
 field_codes = codes_of 0 SUBLAYER_TIMING (codes_of 0 TIMING (codes_of 0 DPB (codes_of 0 PTL (replicate 64 no_code))))
 
 abbrev pub field_code : ℕ → FieldCode
 field_code field = slice_index_or field_codes field no_code
 
--- Behind an item of a field that stands before these zeros, they come: the numbers of fields rise along a table.
+-- After an item of a field that stands before these zeros, they come: the numbers of fields rise along a table.
 abbrev pub zeros_behind : ℕ → ℕ → ℕ → List Bool
 zeros_behind before over place = cond (nat_lt before over) (zeros_from place) []
 
 abbrev pub gap : ℕ → ℕ → ℕ → List Bool
 gap before field place = zeros_behind before (field_code field).zeros place
 
--- if there is a coding, it is at most 32 bits wide
+-- If there is a coding, it is at most 32 bits wide.
 abbrev pub IsCodableIfAny : Option (Coding ℕ) → Type 0
 IsCodableIfAny (Some coding) = IsCodable coding
 IsCodableIfAny None = Unit {0}
 
--- the code of a value at a place
+-- The code of a value at a place.
 abbrev pub value_bits : Option (Coding ℕ) → ℕ → ℤ → List Bool
 value_bits (Some coding) place v = code_of coding place v
 value_bits None place v = []
 
--- an item's bits at a place, behind an item of that field
+-- An item's bits at a place, after an item of that field.
 unfoldable pub item_bits : ℕ → ℕ → Item → List Bool
 item_bits before place item =
     gap before item.field place ++ value_bits (field_code item.field).coding (place + length (gap before item.field place)) item.value
 
--- the items' bits from a place on
+-- The items' bits from a place on.
 unfoldable pub run_bits : ℕ → ℕ → List Item → List Bool
 run_bits before place [] = []
 run_bits before place (item ∷ items) =
@@ -84,7 +84,7 @@ run_bits before place (item ∷ items) =
 abbrev pub GrowsByFront : List Bool → List Bool → List Bool → Type 0
 GrowsByFront old new bits = (n : ℕ) × (new ≡ old ++ take n bits)
 
--- the field has a code, and its value has one
+-- The field has a code, and its value has one.
 abbrev pub HasBits : Option (Coding ℕ) → ℤ → Type 0
 HasBits (Some coding) v = HasCode coding v
 HasBits None v = ⊥

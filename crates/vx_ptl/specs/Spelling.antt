@@ -1,4 +1,4 @@
--- What items of whole structures spell, one structure behind another.
+-- What items of whole structures spell, one structure after another.
 use Rattle.std.specs.Prelude.{◌≡◌, ℕ, ℤ, ◌-◌, ◌+◌, ◌≤◌, Bool, List, [], ◌++◌, length, All}
 use Rattle.vx_bits.specs.declared.list.Item.{Item}
 use Rattle.vx_table.specs.Forms.{Form, form_of}
@@ -14,14 +14,14 @@ pub data IsStructure : Form (List ℕ) → Type 0 where
   general_timing : (scope : List ℕ) → IsStructure (form_of TIMING scope)
   timing_of_sublayers : (scope : List ℕ) → IsStructure (form_of SUBLAYER_TIMING scope)
 
--- From this place on the bits are the spelling of the structures whose items these are, one behind another.
+-- From this place on the bits are the spelling of the structures whose items these are, one after another.
 pub data SpellStructures : ℕ → List Item → List Bool → Type 0 where
   no_more : {place : ℕ} → SpellStructures place [] []
   one_more : {form : Form (List ℕ)} {values : List ℤ} {scope : List ℕ} {place : ℕ} {items : List Item} {bits : List Bool}
       → IsStructure form → Follows form values scope → SpellStructures (place + length (bits_along form place values)) items bits
       → SpellStructures place (items_along form values ++ items) (bits_along form place values ++ bits)
 
--- Each of these items can be written, and their bits, behind whatever item, are these.
+-- Each of these items can be written, and their bits, after whatever item, are these.
 abbrev pub AreWritten : ℕ → List Item → List Bool → Type 0
 AreWritten place items bits = All IsRunItem items × ((before : ℕ) → run_bits before place items ≡ bits)
 
@@ -38,7 +38,8 @@ StructuresAreSpelled = (form : Form (List ℕ)) (values : List ℤ) (scope : Lis
 abbrev pub RunsAreSpelled : Type 0
 RunsAreSpelled = (place : ℕ) (items : List Item) (bits : List Bool) → SpellStructures place items bits → AreWritten place items bits
 
--- From the bits that are left, of so many in all, up to the rest, structures were read one behind another, and these are their items.
+-- From the bits that are left, of so many in all, up to the rest, structures were read one after another, and these are their
+-- items.
 pub data ReadStructures (total : ℕ) : List Bool → List Item → List Bool → Type 0 where
   all_read : {rest : List Bool} → ReadStructures total rest [] rest
   one_read : {form : Form (List ℕ)} {values : List ℤ} {items : List Item} {left mid rest : List Bool}

@@ -24,7 +24,7 @@ use Rattle.vx_rpl.specs.HeaderLists.{lists_of}
 
 -- ---- what is read
 
--- lists: five numbers of the parameter sets, whatever structures the SPS has
+-- Lists: five numbers of the parameter sets, whatever structures the SPS has.
 abbrev pub fields_behind_lists : List ℕ
 fields_behind_lists = IS_LIST_0 ∷ NUM_STRUCTURES ∷ (named_by BEFORE_LIST_0 ++ named_by CHOICE ++ named_by_all own_and_long_term
     ++ named_by BEHIND_LIST_0 ++ named_by BEHIND_LIST_1)
@@ -35,14 +35,14 @@ ListsDepend = (table : RplTable) → DependsOnlyOn
     ∷ pps_rpl1_idx_present_flag ∷ [])
     fields_behind_lists (lists_form table)
 
--- a structure: four of the SPS, and which of how many it is
+-- A structure: four of the SPS, and which of how many it is.
 abbrev pub StructureDepends : Type 0
 StructureDepends = ReadsOnly
     (sps_log2_max_pic_order_cnt_lsb_minus4 ∷ sps_weighted_pred_flag ∷ sps_weighted_bipred_flag ∷ sps_long_term_ref_pics_flag
     ∷ STRUCTURE ∷ NUM_STRUCTURES ∷ [])
     REF_PIC_LIST_STRUCT
 
--- weights: chroma, two flags of the PPS, and the lists' entries and active ones
+-- Weights: chroma, two flags of the PPS, and the lists' entries and active ones.
 abbrev pub WeightsDepend : Type 0
 WeightsDepend = SectionsReadOnly
     (sps_chroma_format_idc ∷ pps_wp_info_in_ph_flag ∷ pps_weighted_bipred_flag ∷ ENTRIES_0 ∷ ENTRIES_1 ∷ ACTIVE_0 ∷ ACTIVE_1 ∷ [])
@@ -53,14 +53,14 @@ FieldsAreCodedOnce = CodedOnce (CHOICE ∷ REF_PIC_LIST_STRUCT ∷ LONG_TERM ∷
 
 -- ---- how what is known goes along the lists: the tests of their tables, one behind another
 
--- before the choice of a list's structure it is set which list that is, and how many structures the SPS has for it
+-- Before the choice of a list's structure it is set which list that is, and how many structures the SPS has for it.
 abbrev pub at_choice : List ℕ → List ℕ → List ℕ
 at_choice shown known = grown shown (grown shown known IS_LIST_0) NUM_STRUCTURES
 
 abbrev pub at_structure : List ℕ → List ℕ → List ℕ
 at_structure shown known = behind_table shown (at_choice shown known) CHOICE
 
--- where the list takes a structure of the SPS, that it does and which one is known
+-- Where the list takes a structure of the SPS, that it does and which one is known.
 unfoldable pub list_chains : List ℕ → List ℕ → Bool
 list_chains shown known = table_depends shown (at_choice shown known) CHOICE
     && ((has (at_structure shown known) rpl_sps_flag && has (at_structure shown known) rpl_idx)
@@ -106,7 +106,7 @@ ListsShow = (table : RplTable) (shown : List ℕ) → lists_pass (shows_row show
 abbrev pub ListsKeep : Type 0
 ListsKeep = (table : RplTable) (shown s : List ℕ) → lists_pass (star_tells shown) ≡ true → KeepsShown shown (lists_form table s)
 
--- names that the lists leave alone
+-- Names that the lists leave alone.
 abbrev pub lists_hide : List ℕ → Bool
 lists_hide names = hides names BEFORE_LIST_0
     && (hides names CHOICE
@@ -123,12 +123,12 @@ ListsLeave = (table : RplTable) (names : List ℕ) → lists_hide names ≡ true
 
 -- ---- which items tell the lists
 
--- the set has so many fields from this one on
+-- The set has so many fields from this one on.
 abbrev pub has_run : List ℕ → ℕ → ℕ → Bool
 has_run names of zero = true
 has_run names of (suc more) = has names of && has_run names (of + 1) more
 
--- the same items of their fields, at scopes that agree on what they read, come to the same lists
+-- The same items of their fields, at scopes that agree on what they read, come to the same lists.
 abbrev pub ListsFollowItems : Type 0
 ListsFollowItems = (table : RplTable) (known s t names : List ℕ) (items others : List Item) → Agree known s t
     → IsTrue (has known sps_weighted_pred_flag) → IsTrue (has known sps_weighted_bipred_flag)
@@ -136,7 +136,7 @@ ListsFollowItems = (table : RplTable) (known s t names : List ℕ) (items others
     → has_run names num_ref_entries 11 ≡ true → shown_items names items ≡ shown_items names others
     → lists_of table s items ≡ lists_of table t others
 
--- and those of structures and their numbers to the same structures of an SPS
+-- Those of structures and their numbers to the same structures of an SPS.
 abbrev pub TablesFollowItems : Type 0
 TablesFollowItems = (weighted : Bool) (names : List ℕ) (items others : List Item) → IsTrue (has names sps_num_ref_pic_lists)
     → has_run names num_ref_entries 6 ≡ true → shown_items names items ≡ shown_items names others

@@ -17,12 +17,12 @@ use Rattle.vx_rpl.specs.declared.tables.TheConstants.{BEHIND_LIST_0, BEHIND_LIST
 
 -- ---- a structure that a header takes from the SPS (7.4.10)
 
--- st_ref_pic_flag is 0 (7.4.11)
+-- st_ref_pic_flag is 0 (7.4.11).
 abbrev pub is_long : RefEntry → Bool
 is_long (Short abs sign) = false
 is_long (Long lsb msb) = true
 
--- the scope behind the structure, as if it had been read here (our own)
+-- The scope after the structure, as if it had been read here (our own).
 abbrev pub behind_structure : Option Structure → List ℕ → List ℕ
 behind_structure None s = s
 behind_structure (Some structure) s =
@@ -30,17 +30,17 @@ behind_structure (Some structure) s =
     (slice_set (slice_set s num_ref_entries (length structure.entries)) ltrp_in_header_flag (one_if structure.in_header))
     LONG_ENTRIES (count_by is_long structure.entries)
 
--- where rpl_sps_flag is 1, the structure at rpl_idx (RplsIdx, 7.4.10)
+-- Where rpl_sps_flag is 1, the structure at rpl_idx (RplsIdx, 7.4.10).
 unfoldable pub picked : List Structure → List ℕ → List ℕ
 picked structures s = cond (slice_index s rpl_sps_flag == 0) s (behind_structure (slice_get structures (slice_index s rpl_idx)) s)
 
 -- ---- the lists of a header (7.3.9)
 
--- before a list, of which the SPS has these structures (our own)
+-- Before a list, of which the SPS has these structures (our own).
 unfoldable pub begun : Bool → List Structure → List ℕ → List ℕ
 begun is_list_0 structures s = slice_set (slice_set s IS_LIST_0 (one_if is_list_0)) NUM_STRUCTURES (length structures)
 
--- the list's own structure, where it takes none from the SPS, and what the header tells of long-term entries (7.3.9)
+-- The list's own structure, where it takes none from the SPS, and what the header tells of long-term entries (7.3.9).
 abbrev pub own_and_long_term : List Section
 own_and_long_term = provided (Equal (Latest rpl_sps_flag) (Number 0)) REF_PIC_LIST_STRUCT ∷ always LONG_TERM ∷ []
 
@@ -59,13 +59,13 @@ first_form structures s = (form_of BEFORE_LIST_0 s >>= list_form true structures
 unfoldable pub second_form : List Structure → List ℕ → Form (List ℕ)
 second_form structures s = list_form false structures s >>= form_of BEHIND_LIST_1
 
--- ref_pic_lists(): list 0, and then list 1 (7.3.9)
+-- ref_pic_lists(): list 0, and then list 1 (7.3.9).
 unfoldable pub lists_form : RplTable → List ℕ → Form (List ℕ)
 lists_form table s = first_form table.first s >>= second_form table.second
 
 -- ---- weights (7.3.8)
 
--- pred_weight_table() (7.3.8)
+-- pred_weight_table() (7.3.8).
 abbrev pub weights : List Section
 weights = always WEIGHTS_0 ∷ always WEIGHTS ∷ always WEIGHTS_1 ∷ always WEIGHTS ∷ []
 

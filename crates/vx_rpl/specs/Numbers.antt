@@ -8,7 +8,7 @@ use Rattle.vx_fields.specs.declared.pps.TheConstants.{pps_rpl1_idx_present_flag,
 use Rattle.vx_rpl.specs.declared.numbers.RplNumbers.{RplNumbers}
 use Rattle.vx_rpl.specs.declared.numbers.WeightNumbers.{WeightNumbers}
 
--- the numbers that lists read
+-- The numbers that lists read.
 unfoldable pub lists_scope : RplNumbers → List ℕ
 lists_scope n =
     slice_set
@@ -17,11 +17,11 @@ lists_scope n =
     sps_log2_max_pic_order_cnt_lsb_minus4 (n.lsb_bits - 4))
     pps_rpl1_idx_present_flag (one_if n.rpl1_idx_present)
 
--- and those of structure `index` of `count`
+-- Those of structure `index` of `count`.
 unfoldable pub structure_scope : RplNumbers → ℕ → ℕ → List ℕ
 structure_scope n index count = slice_set (slice_set (lists_scope n) STRUCTURE index) NUM_STRUCTURES count
 
--- the numbers that weights read
+-- The numbers that weights read.
 unfoldable pub weights_scope : WeightNumbers → List ℕ
 weights_scope n =
     slice_set

@@ -12,19 +12,19 @@ use Rattle.vx_rpl.specs.declared.entry.RplTable.{RplTable}
 
 -- ---- items by their fields (our own)
 
--- the number that stands next, where it is one of this field; else 0
+-- The number that stands next, where it is one of this field; else 0.
 abbrev pub next_number : ℕ → List Item → ℕ
 next_number of [] = 0
 next_number of (item ∷ items) = cond (item.field == of) (natural item.value) 0
 
--- what follows the first number of a field, where there is one
+-- What follows the first number of a field, where there is one.
 abbrev pub past : ℕ → List Item → Option (List Item)
 past of [] = None
 past of (item ∷ items) = cond (item.field == of) (Some items) (past of items)
 
 -- ---- the entries of a structure (7.3.10, 7.4.11)
 
--- AbsDeltaPocSt of entry i (7.4.11): abs_delta_poc_st, and 1 more unless there may be weights and i isn't 0
+-- AbsDeltaPocSt of entry i (7.4.11): abs_delta_poc_st, and 1 more unless there may be weights and i isn't 0.
 abbrev pub abs_delta : Bool → ℕ → ℕ → ℕ
 abs_delta weighted i v = cond (weighted && nat_lt 0 i) v (capped (v + 1))
 
@@ -32,18 +32,18 @@ abs_delta weighted i v = cond (weighted && nat_lt 0 i) v (capped (v + 1))
 abbrev pub begins_entry : Item → Bool
 begins_entry item = item.field == abs_delta_poc_st || (item.field == st_ref_pic_flag && natural item.value == 0)
 
--- the fields behind num_ref_entries in a structure (7.3.10)
+-- The fields after num_ref_entries in a structure (7.3.10).
 abbrev pub is_of_structure : Item → Bool
 is_of_structure item = nat_le ltrp_in_header_flag item.field && nat_le item.field rpls_poc_lsb_lt
 
--- the entry that begins with an item; an absent sign or lsb is 0 (7.4.11)
+-- The entry that begins with an item; an absent sign or lsb is 0 (7.4.11).
 abbrev pub entry_of : Bool → ℕ → Item → List Item → RefEntry
 entry_of weighted i item items =
     cond (item.field == abs_delta_poc_st)
     (Short (abs_delta weighted i (natural item.value)) (is_set (next_number strp_entry_sign_flag items)))
     (Long (next_number rpls_poc_lsb_lt items) None)
 
--- the entries from number i on of a structure whose further items come first (7.4.11)
+-- The entries from number i on of a structure whose further items come first (7.4.11).
 abbrev pub entries_from : Bool → ℕ → List Item → List RefEntry
 entries_from weighted i [] = []
 entries_from weighted i (item ∷ items) =
@@ -51,7 +51,7 @@ entries_from weighted i (item ∷ items) =
     (cond (begins_entry item) (entry_of weighted i item items ∷ entries_from weighted (i + 1) items) (entries_from weighted i items))
     []
 
--- a structure whose items behind num_ref_entries come first; it has 29 entries at most (7.4.11)
+-- A structure whose items after num_ref_entries come first; it has 29 entries at most (7.4.11).
 abbrev pub structure_of : Bool → List Item → Structure
 structure_of weighted items = record {
   entries = take 29 (entries_from weighted 0 items);
@@ -60,7 +60,7 @@ structure_of weighted items = record {
 
 -- ---- the structures of an SPS (7.3.2.4, 7.3.10)
 
--- the structures behind an sps_num_ref_pic_lists, up to the next (7.3.2.4)
+-- The structures after an sps_num_ref_pic_lists, up to the next (7.3.2.4).
 abbrev pub structures_from : Bool → List Item → List Structure
 structures_from weighted [] = []
 structures_from weighted (item ∷ items) =
@@ -71,7 +71,7 @@ abbrev pub structures_behind : Bool → Option (List Item) → List Structure
 structures_behind weighted None = []
 structures_behind weighted (Some items) = take 64 (structures_from weighted items)
 
--- list 0's structures stand behind the first sps_num_ref_pic_lists, at most 64 (7.3.2.4)
+-- List 0's structures stand after the first sps_num_ref_pic_lists, at most 64 (7.3.2.4).
 abbrev pub list_0_structures : Bool → List Item → List Structure
 list_0_structures weighted items = structures_behind weighted (past sps_num_ref_pic_lists items)
 
@@ -79,7 +79,7 @@ abbrev pub behind_second : Option (List Item) → Option (List Item)
 behind_second None = None
 behind_second (Some items) = past sps_num_ref_pic_lists items
 
--- list 1's stand behind the second; where there is none, they are list 0's (sps_rpl1_same_as_rpl0_flag, 7.4.3.4)
+-- List 1's stand after the second; where there is none, they are list 0's (sps_rpl1_same_as_rpl0_flag, 7.4.3.4).
 abbrev pub second_or_first : Bool → List Item → Option (List Item) → List Structure
 second_or_first weighted items None = list_0_structures weighted items
 second_or_first weighted items (Some others) = structures_behind weighted (Some others)
@@ -94,6 +94,6 @@ both_of weighted items = record { first = list_0_structures weighted items; seco
 abbrev pub is_of_table : Item → Bool
 is_of_table item = item.field == sps_num_ref_pic_lists || (nat_le num_ref_entries item.field && nat_le item.field rpls_poc_lsb_lt)
 
--- the structures of both lists in an SPS (7.3.2.4)
+-- The structures of both lists in an SPS (7.3.2.4).
 unfoldable pub table_of : Bool → List Item → RplTable
 table_of weighted items = both_of weighted (filter is_of_table items)

@@ -33,8 +33,8 @@ all_taken (Ok u) [] = Ok u
 all_taken (Ok u) (item ∷ left) = Err NoValue
 all_taken (Err e) left = Err e
 
--- A structure is spelled alike in an SPS and in a header, but for ltrp_in_header_flag, which an SPS alone spells: so it is one of
--- an SPS where that stands behind its number of entries.
+-- A structure is spelled alike in an SPS and in a header, except for ltrp_in_header_flag, which an SPS alone spells: so it is
+-- one of an SPS where that stands after its number of entries.
 abbrev pub is_second : ℕ → List Item → Bool
 is_second of (first ∷ second ∷ items) = second.field == of
 is_second of items = false

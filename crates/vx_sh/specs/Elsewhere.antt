@@ -13,11 +13,11 @@ use Rattle.vx_sh.specs.Depends.{all_given}
 use Rattle.vx_sh.specs.Whole.{At, index_of, num_slices_in_subpic, points_at}
 use Rattle.vx_sh.specs.Value.{BeginsSlice}
 
--- what all fields behind the id depend on, but for what the slice header itself tells before them,
+-- What all fields after the id depend on, except for what the slice header itself tells before them,
 abbrev pub given_behind : List ℕ
 given_behind = filter (λ n. not (has (NUM_SLICES ∷ sh_picture_header_in_slice_header_flag ∷ []) n)) all_given
 
--- and what the id and the entry points depend on: all that a slice header reads of the sets and of the picture header in force
+-- and what the id and the entry points depend on: all that a slice header reads of the sets and of the picture header in force.
 abbrev pub given : List ℕ
 given = sps_subpic_info_present_flag ∷ sps_subpic_id_len_minus1 ∷ sps_entropy_coding_sync_enabled_flag
     ∷ sps_entry_point_offsets_present_flag ∷ given_behind
@@ -37,7 +37,7 @@ pub record AgreeAt (n m : At) (id : ℕ) : Type 0 where
   pub slice : Agree given n.slice m.slice
   pub subpic : HaveSubpicture n m id
 
--- The headers are the same but for the index of the subpicture.
+-- The headers are the same except for the index of the subpicture.
 pub record IsSameSlice (header other : SliceHeader) : Type 0 where
   pub inside : other.inside ≡ header.inside
   pub fields : other.fields ≡ header.fields

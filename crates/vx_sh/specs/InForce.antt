@@ -34,7 +34,7 @@ slice_scope nal_type sps pps header sets =
     DEFAULT_ACTIVE_0 (default_active pps 0))
     DEFAULT_ACTIVE_1 (default_active pps 1)
 
--- what is in force under these sets and this picture header
+-- What is in force under these sets and this picture header.
 abbrev pub at_sets : ℕ → List Item → List Item → PictureHeader → List ℕ → Numbers → At
 at_sets nal_type sps pps header ids layout = record {
   table = structures sps;
@@ -47,7 +47,7 @@ at_sets nal_type sps pps header ids layout = record {
 abbrev pub in_force_at : SliceNumbers → At
 in_force_at n = at_sets n.nal_type n.sps.now n.pps.now n.header.now n.ids.now n.layout.now
 
--- the names that it has beside fields
+-- The names that it has beside fields.
 abbrev pub beside : List ℕ
 beside = ENTRIES_0 ∷ ENTRIES_1 ∷ NAL_TYPE ∷ EXTRA_SH_BITS ∷ DEFAULT_ACTIVE_0 ∷ DEFAULT_ACTIVE_1 ∷ []
 

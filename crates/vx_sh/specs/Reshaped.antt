@@ -1,4 +1,4 @@
--- The rewritten slice header: what it takes over from its source, and what it states (H.266 7.3.7).
+-- The rewritten slice header: what it copies from its source, and what it states (H.266 7.3.7).
 use Rattle.std.specs.Prelude.{◌≡◌, ℕ, ℤ, ◌+◌, ◌^◌, ◌<◌, ◌==◌, Bool, true, false, not, List, [], ◌∷◌, ◌++◌, filter, length}
 use Rattle.vx_bits.specs.declared.list.Item.{Item}
 use Rattle.vx_bits.specs.Codes.{IsCodeNumber, code_number}
@@ -32,28 +32,28 @@ use Rattle.vx_sh.specs.Whole.{At, index_of, points_at, num_slices_in_subpic}
 
 -- ---- what is stated, in the order of the syntax (7.3.7; what is stated is our own choice)
 
--- the picture header stands apart; the id of the subpicture, where the SPS describes subpictures (7.3.7)
+-- The picture header stands apart; the id of the subpicture, where the SPS describes subpictures (7.3.7).
 abbrev pub sh_subpic_id_items : List Item → ℕ → List Item
 sh_subpic_id_items sps id =
     item sh.sh_picture_header_in_slice_header_flag 0
     ∷ where_so (is_set (number sps sps_fields.sps_subpic_info_present_flag)) (item sh.sh_subpic_id id ∷ [])
 
--- the filter, where the SPS has it (7.3.7)
+-- The filter, where the SPS has it (7.3.7).
 abbrev pub stated_filter_items : List Item → List Item → List Item
 stated_filter_items sps filter = where_so (is_set (number sps sps_fields.sps_alf_enabled_flag)) filter
 
--- what is used of LMCS and scaling lists, where the picture header has them on (7.3.7)
+-- What is used of LMCS and scaling lists, where the picture header has them on (7.3.7).
 abbrev pub use_items : List Item → (uses_lmcs uses_scaling : Bool) → List Item
 use_items header uses_lmcs uses_scaling =
     where_so (is_set (number header ph.ph_lmcs_enabled_flag)) (item sh.sh_lmcs_used_flag (one_if uses_lmcs) ∷ [])
     ++ where_so (is_set (number header ph.ph_explicit_scaling_list_enabled_flag))
     (item sh.sh_explicit_scaling_list_used_flag (one_if uses_scaling) ∷ [])
 
--- the QP (7.3.7)
+-- The QP (7.3.7).
 abbrev pub qp_items : ℤ → List Item
 qp_items delta = record { field = sh.sh_qp_delta; value = delta } ∷ []
 
--- all that is stated (7.3.7)
+-- All that is stated (7.3.7).
 abbrev pub stated_sh_items : SliceNumbers → ShShape → List Item
 stated_sh_items n shape =
     sh_subpic_id_items n.sps.now shape.subpic_id
@@ -143,7 +143,7 @@ ReshapedIsReadAgain = (source written : SliceHeader) (shape : ShShape) (n : Slic
 
 -- ---- sets and picture headers with the same kept fields
 
--- what slice headers read of them that is kept, behind the id of the subpicture
+-- What slice headers read of them that is kept, after the id of the subpicture.
 abbrev pub kept_in_force : List ℕ
 kept_in_force = sps_fields.sps_entropy_coding_sync_enabled_flag ∷ sps_fields.sps_entry_point_offsets_present_flag
     ∷ filter (λ n. not (n == NUM_SLICES)) kept_given

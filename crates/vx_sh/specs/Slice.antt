@@ -1,4 +1,4 @@
--- The form of a slice header behind the id of its subpicture (H.266 7.3.7).
+-- The form of a slice header after the id of its subpicture (H.266 7.3.7).
 use Rattle.std.specs.Prelude.{ℕ, List, [], ◌∷◌, ◌++◌, slice_index, slice_set}
 use Rattle.vx_table.specs.declared.rows.Term.TheVariants.{Latest}
 use Rattle.vx_table.specs.declared.rows.Formula.TheVariants.{Plain}
@@ -13,51 +13,51 @@ use Rattle.vx_ph.specs.declared.tables.TheConstants.{ALF}
 use Rattle.vx_sh.specs.declared.tables.TheConstants.{ADDRESS, TYPE, FILTER_HERE, LMCS_AND_SCALING, LISTS_HERE, ACTIVE, INTER, QP}
 use Rattle.vx_sh.specs.declared.tables.TheConstants.{CHROMA_QP_AND_FILTERS, END, ALIGNMENT}
 
--- the scope in which NumEntryPoints is that of the slice at the address, of so many at each address (NumEntryPoints, 7.4.8)
+-- The scope in which NumEntryPoints is that of the slice at the address, of so many at each address (NumEntryPoints, 7.4.8).
 unfoldable pub with_entry_points : (ℕ → ℕ) → List ℕ → List ℕ
 with_entry_points points s = slice_set s NUM_ENTRY_POINTS (points (slice_index s sh_slice_address))
 
--- the address, with which the number of entry points is known (7.3.7)
+-- The address, with which the number of entry points is known (7.3.7).
 unfoldable pub address_form : (ℕ → ℕ) → List ℕ → Form (List ℕ)
 address_form points s = form_of ADDRESS s >>= λ t. done (with_entry_points points t)
 
--- what the slice uses of the picture's adaptation sets: the filter where it stands here, LMCS and scaling lists (7.3.7)
+-- What the slice uses of the picture's adaptation sets: the filter where it stands here, LMCS and scaling lists (7.3.7).
 abbrev pub own : List Section
 own = always FILTER_HERE ∷ provided (Plain (Latest HAS_ALF)) ALF ∷ always LMCS_AND_SCALING ∷ []
 
--- between the address and the lists (7.3.7)
+-- Between the address and the lists (7.3.7).
 abbrev pub before_lists : List Section
 before_lists = always TYPE ∷ (own ++ (always LISTS_HERE ∷ []))
 
--- the lists, where they stand here (7.3.7, 7.3.9)
+-- The lists, where they stand here (7.3.7, 7.3.9).
 abbrev pub lists_here : RplTable → List ℕ → Form (List ℕ)
 lists_here table = present (When (Plain (Latest HAS_LISTS))) (lists_form table)
 
--- between lists and weights (7.3.7)
+-- Between lists and weights (7.3.7).
 abbrev pub between : List Section
 between = always ACTIVE ∷ always INTER ∷ []
 
--- prediction weights, where they stand here (7.3.7, 7.3.8)
+-- Prediction weights, where they stand here (7.3.7, 7.3.8).
 abbrev pub weights_here : List ℕ → Form (List ℕ)
 weights_here = present (When (Plain (Latest HAS_WEIGHTS))) weights_form
 
--- the QP of the slice (7.3.7)
+-- The QP of the slice (7.3.7).
 abbrev pub qp : List Section
 qp = always QP ∷ []
 
--- behind the weights (7.3.7)
+-- After the weights (7.3.7).
 abbrev pub behind_weights : List Section
 behind_weights = qp ++ (always CHROMA_QP_AND_FILTERS ∷ always END ∷ always ALIGNMENT ∷ [])
 
--- from the address to the lists (7.3.7)
+-- From the address to the lists (7.3.7).
 unfoldable pub front_form : (ℕ → ℕ) → List ℕ → Form (List ℕ)
 front_form points s = address_form points s >>= sections_form before_lists
 
--- and all before the weights (7.3.7)
+-- All before the weights (7.3.7).
 unfoldable pub sh_before_weights : RplTable → (ℕ → ℕ) → List ℕ → Form (List ℕ)
 sh_before_weights table points s = (front_form points s >>= lists_here table) >>= sections_form between
 
--- slice_header( ) behind sh_subpic_id, with its alignment, with the SPS's structures of lists, and so many entry points at each
--- address, at a scope that has the numbers of the sets and the picture header in force (7.3.7)
+-- slice_header( ) after sh_subpic_id, with its alignment, with the SPS's structures of lists, and so many entry points at each
+-- address, at a scope that has the numbers of the sets and the picture header in force (7.3.7).
 unfoldable pub rest_form : RplTable → (ℕ → ℕ) → List ℕ → Form (List ℕ)
 rest_form table points s = (sh_before_weights table points s >>= weights_here) >>= sections_form behind_weights

@@ -19,7 +19,7 @@ use Rattle.vx_sh.specs.declared.tables.TheConstants.{HEADER_INSIDE}
 use Rattle.vx_table.specs.Loaded.{number}
 use Rattle.vx_sh.specs.Whole.{At, index_of, behind_header, header_inside, slice_form}
 
--- The items are those of a slice header: of values that go through its form but for the picture header that stands inside, whose
+-- The items are those of a slice header: of values that go through its form except for the picture header that is inside, whose
 -- values are these (7.3.7).
 pub record AreFields (n : At) (fields : List Item) (inside : List ℤ) : Type 0 where
   pub first : List ℤ
@@ -32,11 +32,11 @@ pub record AreFields (n : At) (fields : List Item) (inside : List ℤ) : Type 0 
   pub all : fields ≡ items_along (form_of HEADER_INSIDE n.slice) first
       ++ items_along (behind_header n.table n.ids n.layout at) behind
 
--- all values, in the order of the bits (our own)
+-- All values, in the order of the bits (our own).
 abbrev pub values_of : {n : At} {fields : List Item} {inside : List ℤ} → AreFields n fields inside → List ℤ
 values_of {inside} f = (f.first ++ inside) ++ f.behind
 
--- What else a slice header has: whether the picture header stands inside, its subpicture and its address, and the lists that its
+-- What else a slice header has: whether the picture header is inside, its subpicture and its address, and the lists that its
 -- fields come to.
 pub record HasNumbers (n : At) (header : SliceHeader) (end : List ℕ) : Type 0 where
   pub inside : header.inside ≡ is_set (slice_index end sh_picture_header_in_slice_header_flag)
@@ -79,8 +79,8 @@ abbrev pub SpellingIsRead : Type 0
 SpellingIsRead = (n : At) (fields header : List Item) (bytes payload : List ℕ) (read : SliceHeader) (size : ℕ)
     → IsSliceHeaderSpelling n fields header bytes → BeginsSlice n (bytes ++ payload) read size → (read.fields ≡ fields) × (size ≡ length bytes)
 
--- The scope at the end of a slice header has the numbers that its items tell: whether the picture header stands inside, the index of
--- the id, which is one of those of the subpictures, and the address.
+-- The scope at the end of a slice header has the numbers that its items tell: whether the picture header is inside, the index
+-- of the id, which is one of those of the subpictures, and the address.
 pub record AreToldBySlice (n : At) (fields : List Item) (end : List ℕ) : Type 0 where
   pub inside : slice_index end sh_picture_header_in_slice_header_flag ≡ number fields sh_picture_header_in_slice_header_flag
   pub subpic : slice_index end SUBPIC ≡ index_of (number fields sh_subpic_id) n.ids
@@ -103,7 +103,7 @@ abbrev pub SpellingBegins : Type 0
 SpellingBegins = (n : At) (header : SliceHeader) (others : List Item) (bytes payload : List ℕ) → length n.slice ≡ 1024
     → TellsNumbers n header → IsSliceHeaderSpelling n header.fields others bytes → BeginsSlice n (bytes ++ payload) header (length bytes)
 
--- What was read can be written: with any picture header where none stands inside, else with the one that the bits behind the first
+-- What was read can be written: with any picture header where none is inside, else with the one that the bits after the first
 -- spell.
 pub record CanBeWritten (n : At) (rbsp : List ℕ) (header : SliceHeader) : Type 0 where
   pub apart : header.inside ≡ false → (others : List Item) → IsSliceOf n header.fields others
@@ -119,7 +119,7 @@ abbrev pub NoProperPrefix : Type 0
 NoProperPrefix = (n : At) (fields others header other : List Item) (bytes more : List ℕ)
     → IsSliceHeaderSpelling n fields header bytes → IsSliceHeaderSpelling n others other (bytes ++ more) → (fields ≡ others) × (more ≡ [])
 
--- The first bit of the RBSP says whether the picture header stands inside.
+-- The first bit of the RBSP says whether the picture header is inside.
 abbrev pub FirstBitIsInside : Type 0
 FirstBitIsInside = (n : At) (rbsp : List ℕ) (header : SliceHeader) (size : ℕ) → length n.slice ≡ 1024 → BeginsSlice n rbsp header size
     → header.inside ≡ nat_le 128 (slice_index rbsp 0)

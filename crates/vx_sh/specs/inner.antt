@@ -1,4 +1,4 @@
--- What serves bodies alone.
+-- Definitions that only bodies use: no caller has to believe them.
 pub mod Reading
 pub mod Writing
 pub mod Sending

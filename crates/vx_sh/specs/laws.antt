@@ -1,4 +1,4 @@
--- Statements of laws, which are proved: nothing that a caller has to believe.
+-- Statements of laws, which are proved: no caller has to believe them.
 pub mod Addresses
 pub mod Again
 pub mod Enabled

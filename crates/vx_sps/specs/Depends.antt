@@ -16,26 +16,26 @@ use Rattle.vx_table.specs.Values.{Follows}
 use Rattle.vx_sps.specs.Set.{AreSpsItems}
 use Rattle.vx_sps.specs.Structure.{sps_form, sps_sections}
 
--- the kept fields: those without a star
+-- The kept fields: those without a star.
 abbrev pub kept_sps_fields : List ℕ
 kept_sps_fields = unstarred sps_sections
 
--- the items of a set's kept fields, in order
+-- The items of a set's kept fields, in order.
 abbrev pub kept_sps_items : List Item → List Item
 kept_sps_items items = shown_items kept_sps_fields items
 
--- the names that their rows use
+-- The names that their rows use.
 abbrev pub names_of_kept : List ℕ
 names_of_kept = EXTRA_BIT ∷ NUM_QP_TABLES ∷ QP_TABLE ∷ QP_POINT ∷ NUM_STRUCTURES ∷ STRUCTURE ∷ IN_SPS ∷ IN_HEADER ∷ MAY_WEIGHT ∷ ENTRY
     ∷ MAY_BE_0 ∷ HAS_SIGN ∷ IS_LONG ∷ LONG_ENTRIES ∷ INTERVAL ∷ []
 
--- what a rewritten set has as its source besides: whether there is timing, and the usability information, with the name that its rows
--- use; and the gap at the end
+-- What a rewritten set has as its source besides: whether there is timing, and the usability information, with the name that
+-- its rows use; and the gap at the end.
 abbrev pub taken_besides : List ℕ
 taken_besides = sps.sps_timing_hrd_params_present_flag ∷ sps.sps_vui_parameters_present_flag ∷ sps.sps_vui_payload_size_minus1
     ∷ sps.vui_payload_byte ∷ VUI_BYTE ∷ sps.sps_rbsp_trailing_bits ∷ []
 
--- all fields and names that it has as its source
+-- All fields and names that it has as its source.
 abbrev pub taken_sps_fields : List ℕ
 taken_sps_fields = names_of_kept ++ (taken_besides ++ kept_sps_fields)
 

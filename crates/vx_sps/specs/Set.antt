@@ -22,18 +22,18 @@ pub record AreSpsItems (items : List Item) : Type 0 where
 
 -- ---- the pictures
 
--- sps_pic_width_max_in_luma_samples and sps_pic_height_max_in_luma_samples (7.4.3.4)
+-- sps_pic_width_max_in_luma_samples and sps_pic_height_max_in_luma_samples (7.4.3.4).
 abbrev pub width_of : List Item → ℕ
 width_of items = number items sps.sps_pic_width_max_in_luma_samples
 
 abbrev pub height_of : List Item → ℕ
 height_of items = number items sps.sps_pic_height_max_in_luma_samples
 
--- CtbSizeY (H.266 7.4.3.4)
+-- CtbSizeY (H.266 7.4.3.4).
 abbrev pub ctb_size_of : List Item → ℕ
 ctb_size_of items = 2 ^ (number items sps.sps_log2_ctu_size_minus5 + 5)
 
--- the columns and rows of CTUs (7.4.3.4)
+-- The columns and rows of CTUs (7.4.3.4).
 abbrev pub ctu_columns_of : List Item → ℕ
 ctu_columns_of items = quotient (width_of items) (ctb_size_of items)
 
@@ -42,18 +42,18 @@ ctu_rows_of items = quotient (height_of items) (ctb_size_of items)
 
 -- ---- headers
 
--- how many flags of a field are 1 (our own)
+-- How many flags of a field are 1 (our own).
 abbrev pub set_flags : ℕ → List Item → ℕ
 set_flags of items = capped (count_by (λ item. item.field == of && is_set (natural item.value)) items)
 
--- the extra bits of a picture header, and of a slice header: NumExtraPhBits and NumExtraShBits (7.4.3.4)
+-- The extra bits of a picture header, and of a slice header: NumExtraPhBits and NumExtraShBits (7.4.3.4).
 abbrev pub extra_ph_bits_of : List Item → ℕ
 extra_ph_bits_of items = set_flags sps.sps_extra_ph_bit_present_flag items
 
 abbrev pub extra_sh_bits_of : List Item → ℕ
 extra_sh_bits_of items = set_flags sps.sps_extra_sh_bit_present_flag items
 
--- slices may have weights (7.4.3.4)
+-- Slices may have weights (7.4.3.4).
 abbrev pub is_weighted : List Item → Bool
 is_weighted items = is_set (number items sps.sps_weighted_pred_flag) || is_set (number items sps.sps_weighted_bipred_flag)
 

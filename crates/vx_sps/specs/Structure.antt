@@ -15,58 +15,58 @@ use Rattle.vx_sps.specs.declared.tables.TheConstants as tables
 
 -- ---- the tables in groups: of each all fields are taken over by a set rewritten from another, or all are replaced (7.3.2.4)
 
--- the ids
+-- The ids.
 abbrev pub ids : List Section
 ids = always tables.IDS ∷ []
 
--- the numbers before profile_tier_level( )
+-- The numbers before profile_tier_level( ).
 abbrev pub start : List Section
 start = always tables.START ∷ []
 
--- profile_tier_level( ) (7.3.3.1)
+-- profile_tier_level( ) (7.3.3.1).
 abbrev pub profile : List Section
 profile = always PTL ∷ []
 
--- behind it (7.3.2.4)
+-- After it (7.3.2.4).
 abbrev pub resampling : List Section
 resampling = always tables.RESAMPLING ∷ []
 
--- what stands where sps_subpic_info_present_flag is 1 (7.3.2.4)
+-- What stands where sps_subpic_info_present_flag is 1 (7.3.2.4).
 abbrev pub with_subpictures : List Row → Section
 with_subpictures rows = provided (Plain (Latest sps_subpic_info_present_flag)) rows
 
--- the size of pictures and their subpictures (7.3.2.4)
+-- The size of pictures and their subpictures (7.3.2.4).
 abbrev pub picture : List Section
 picture = always tables.SIZE ∷ always tables.CTUS ∷ with_subpictures tables.SUBPICTURES
     ∷ in_turns SUBPIC (Plain (Latest NUM_PLACES)) tables.PLACE ∷ with_subpictures tables.SUBPIC_IDS ∷ []
 
--- bit depth, order counts, and extra bits of headers (7.3.2.4)
+-- Bit depth, order counts, and extra bits of headers (7.3.2.4).
 abbrev pub counts : List Section
 counts = always tables.COUNTS ∷ []
 
--- sps_sublayer_dpb_params_flag, and dpb_parameters( ) (7.3.2.4, 7.3.4)
+-- sps_sublayer_dpb_params_flag, and dpb_parameters( ) (7.3.2.4, 7.3.4).
 abbrev pub dpb : List Section
 dpb = always tables.SUBLAYER_DPB ∷ always DPB ∷ []
 
--- ref_pic_list_struct( ), sps_num_ref_pic_lists times (7.3.2.4, 7.3.10)
+-- ref_pic_list_struct( ), sps_num_ref_pic_lists times (7.3.2.4, 7.3.10).
 abbrev pub rpl_structures : Section
 rpl_structures = in_turns STRUCTURE (Plain (Latest NUM_STRUCTURES)) REF_PIC_LIST_STRUCT
 
--- from the partition of coding blocks to sps_virtual_boundaries_enabled_flag (7.3.2.4)
+-- From the partition of coding blocks to sps_virtual_boundaries_enabled_flag (7.3.2.4).
 abbrev pub tools : List Section
 tools = always tables.PARTITIONS ∷ always tables.TRANSFORMS ∷ always tables.CHROMA_QP ∷ always tables.FILTERS
     ∷ always tables.REFERENCES ∷ rpl_structures ∷ always tables.LIST_1 ∷ rpl_structures
     ∷ always tables.INTER ∷ always tables.INTRA ∷ always tables.SCALING ∷ always tables.TIMED ∷ []
 
--- what stands where sps_timing_hrd_params_present_flag is 1 (7.3.2.4)
+-- What stands where sps_timing_hrd_params_present_flag is 1 (7.3.2.4).
 abbrev pub timed : List Row → Section
 timed rows = provided (Plain (Latest sps_timing_hrd_params_present_flag)) rows
 
--- general_timing_hrd_parameters( ) and ols_timing_hrd_parameters( ) (7.3.2.4, 7.3.5.1, 7.3.5.2)
+-- general_timing_hrd_parameters( ) and ols_timing_hrd_parameters( ) (7.3.2.4, 7.3.5.1, 7.3.5.2).
 abbrev pub timing : List Section
 timing = always NO_TIMING ∷ timed TIMING ∷ always tables.SUBLAYER_CPB ∷ timed SUBLAYER_TIMING ∷ []
 
--- from sps_field_seq_flag on (7.3.2.4)
+-- From sps_field_seq_flag on (7.3.2.4).
 abbrev pub end : List Section
 end = always tables.END ∷ []
 
@@ -75,6 +75,6 @@ end = always tables.END ∷ []
 abbrev pub sps_sections : List Section
 sps_sections = ids ++ (start ++ (profile ++ (resampling ++ (picture ++ (counts ++ (dpb ++ (tools ++ (timing ++ end))))))))
 
--- it reads nothing of the scope that it begins at
+-- It reads nothing of the scope that it begins at.
 abbrev pub sps_form : Form (List ℕ)
 sps_form = sections_form sps_sections fresh

@@ -9,21 +9,22 @@ use Rattle.vx_table.specs.Loaded.{number}
 use Rattle.vx_sps.specs.Set.{ctu_columns_of, ctu_rows_of}
 use Rattle.vx_table.specs.Loaded.{numbers_of}
 
--- how many there are (7.4.3.4)
+-- How many there are (7.4.3.4).
 abbrev pub subpics_of : List Item → ℕ
 subpics_of items = number items sps.sps_num_subpics_minus1 + 1
 
 -- ---- rectangles, in CTUs (7.4.3.4)
 
--- sps_subpic_ctu_top_left_x or _y of subpicture i, which the first one lacks; 0 where it is absent (7.4.3.4)
+-- sps_subpic_ctu_top_left_x or _y of subpicture i, which the first one lacks; 0 where it is absent (7.4.3.4).
 abbrev pub ctu_top_left_at : List ℕ → ℕ → ℕ
 ctu_top_left_at corners i = cond (i == 0) 0 (slice_index corners (i - 1))
 
--- sps_subpic_width_minus1 or _height_minus1 of it, and 1 more; where it is absent the subpicture reaches to the border (7.4.3.4)
+-- sps_subpic_width_minus1 or _height_minus1 of it, and 1 more; where it is absent the subpicture reaches to the border
+-- (7.4.3.4).
 abbrev pub size_at : List ℕ → ℕ → ℕ → ℕ → ℕ
 size_at sizes border corner i = cond (nat_lt i (length sizes)) (capped (slice_index sizes i + 1)) (border - corner)
 
--- a rectangle that is spelled by itself (7.4.3.4)
+-- A rectangle that is spelled by itself (7.4.3.4).
 abbrev pub own_rect : List Item → ℕ → Rect
 own_rect items i =
     let x = ctu_top_left_at (numbers_of items sps.sps_subpic_ctu_top_left_x) i in
@@ -35,11 +36,11 @@ own_rect items i =
       h = size_at (numbers_of items sps.sps_subpic_height_minus1) (ctu_rows_of items) y i;
     }
 
--- how many of a width stand beside one another: numSubpicCols, at least 1 (7.4.3.4)
+-- How many of a width stand beside one another: numSubpicCols, at least 1 (7.4.3.4).
 abbrev pub subpic_columns : ℕ → ℕ → ℕ
 subpic_columns columns w = cond (w == 0) 1 (max (columns / w) 1)
 
--- rectangle i of those that stand on the grid of the first one's size (7.4.3.4)
+-- Rectangle i of those that stand on the grid of the first one's size (7.4.3.4).
 abbrev pub on_grid : ℕ → Rect → ℕ → Rect
 on_grid columns first i = record {
   x = capped ((i % subpic_columns columns first.w) * first.w);
@@ -48,21 +49,21 @@ on_grid columns first i = record {
   h = first.h;
 }
 
--- the rectangle of subpicture i (7.4.3.4)
+-- The rectangle of subpicture i (7.4.3.4).
 abbrev pub rect_of : List Item → ℕ → Rect
 rect_of items i =
     cond (is_set (number items sps.sps_subpic_same_size_flag)) (on_grid (ctu_columns_of items) (own_rect items 0) i) (own_rect items i)
 
 -- ---- flags and ids (7.4.3.4)
 
--- it is treated as a picture, also where all are independent or it is the only one (7.4.3.4)
+-- It is treated as a picture, also where all are independent or it is the only one (7.4.3.4).
 abbrev pub is_treated : List Item → ℕ → Bool
 is_treated items i = is_set (slice_index_or (numbers_of items sps.sps_subpic_treated_as_pic_flag) i 1)
 
--- in-loop filters cross its borders (7.4.3.4)
+-- In-loop filters cross its borders (7.4.3.4).
 abbrev pub is_filtered : List Item → ℕ → Bool
 is_filtered items i = is_set (slice_index_or (numbers_of items sps.sps_loop_filter_across_subpic_enabled_flag) i 0)
 
--- its id where no PPS says another: sps_subpic_id, or i where that is absent (7.4.3.4)
+-- Its id where no PPS says another: sps_subpic_id, or i where that is absent (7.4.3.4).
 abbrev pub sps_subpic_id_of : List Item → ℕ → ℕ
 sps_subpic_id_of items i = slice_index_or (numbers_of items sps.sps_subpic_id) i i

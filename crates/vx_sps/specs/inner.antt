@@ -1,3 +1,3 @@
--- Definitions that serve bodies and proofs alone.
+-- Definitions that only bodies and proofs use: no caller has to believe them.
 pub mod Kept
 pub mod Makes

@@ -3,11 +3,11 @@ use Rattle.std.specs.Prelude.{ℕ, ◌-◌, ◌==◌, cond, List, [], ◌∷◌,
 use Rattle.vx_bits.specs.declared.list.Item.{Item}
 use Rattle.vx_aps.specs.Fields.{type_item, id_item}
 
--- the length of a body, unless it can't end a unit
+-- The length of a body, unless it can't end a unit.
 abbrev pub body_seen : List ℕ → Option ℕ
 body_seen body = cond (length body == 0) None (cond (slice_index body (length body - 1) == 0) None (Some (length body)))
 
--- the items of a type, and of an id
+-- The items of a type, and of an id.
 abbrev pub items_seen : ℕ → Option ℕ → List Item
 items_seen kind None = type_item kind ∷ []
 items_seen kind (Some id) = type_item kind ∷ id_item id ∷ []

@@ -7,11 +7,11 @@ use Rattle.vx_pic.specs.Readings.{Begun}
 use Rattle.vx_pic.specs.PictureLayout.{ids_of}
 use Rattle.vx_pic.specs.UnderSets.{picture_header_of}
 
--- a slice header, and the place in its unit behind it, as they are read
+-- A slice header, and the place in its unit after it, as they are read.
 abbrev pub slice_seen : SliceValue × ℕ → SliceHeader
 slice_seen s = record { fields = s.0.fields; subpic = s.0.subpic; payload = s.1 }
 
--- the numbers that a slice is read at are those of this picture header and what is in force for it
+-- The numbers that a slice is read at are those of this picture header and what is in force for it.
 pub record AreOfBegun (n : SliceNumbers) (b : Begun) : Type 0 where
   pub sps : n.sps.now ≡ b.sps
   pub pps : n.pps.now ≡ b.pps

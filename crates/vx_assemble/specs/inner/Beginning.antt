@@ -17,23 +17,23 @@ use Rattle.vx_assemble.specs.declared.in_force.MadeUp.{MadeUp}
 use Rattle.vx_assemble.specs.declared.state.State.{State}
 use Rattle.vx_assemble.specs.inner.Order.{AreMade}
 
--- the layout that two sets make up
+-- The layout that two sets make up.
 abbrev pub layout_under : Readers → List Item → List Item → Result Numbers Refusal
 layout_under R sps pps = do
   _ ← refuse_if (not (same_size sps pps)) (structure rules.SIZE_DIFFERS)
   R.layout sps pps
 
--- two sets, with what was made of them
+-- Two sets, with what was made of them.
 abbrev pub with_sets : List Item → List Item → MadeUp → InForce
 with_sets sps pps made = record { sps = sps; pps = pps; layout = made.layout; ids = made.ids; slices = made.slices; scope = made.scope }
 
--- two sets, and what they make up
+-- Two sets, and what they make up.
 pub record AreOf (sps pps : List Item) (f : InForce) : Type 0 where
   pub sps_is : f.sps ≡ sps
   pub pps_is : f.pps ≡ pps
   pub made : AreMade f
 
--- the sets that a PPS id refers to, of those that stand at their ids
+-- The sets that a PPS id refers to, of those that stand at their ids.
 abbrev pub sets_at : (ℕ → Option (List Item)) → (ℕ → Option (List Item)) → ℕ → Result SetPair Refusal
 sets_at pps_at sps_at id = do
   pps ← ok_or (pps_at id) (missing sets.PPS id)
@@ -49,22 +49,22 @@ sps_kept s id = slice_index_or s.sps id None
 abbrev pub sets_kept : State → ℕ → Result SetPair Refusal
 sets_kept s id = sets_at (pps_kept s) (sps_kept s) id
 
--- what they make up
+-- What they make up.
 abbrev pub layout_kept : Readers → State → ℕ → Result Numbers Refusal
 layout_kept R s id = do
   pair ← sets_kept s id
   layout_under R pair.sps pair.pps
 
--- the two sets are those that a PPS id refers to, with what they make up
+-- The two sets are those that a PPS id refers to, with what they make up.
 pub record AreInForce (s : State) (id : ℕ) (f : InForce) : Type 0 where
   pub found : sets_kept s id ≡ Ok (record { sps = f.sps; pps = f.pps })
   pub made : AreMade f
 
--- the PH unit of a header that doesn't stand inside a slice
+-- The PH unit of a header that doesn't be inside a slice.
 abbrev pub unit_in : Bool → List ℕ → Option (List ℕ)
 unit_in inside unit = cond inside None (Some unit)
 
--- all of it
+-- All of it.
 abbrev pub header_under : Readers → List Item → List Item → Numbers → List ℕ → Option (List ℕ) → Result Begun Refusal
 header_under R sps pps layout u unit = do
   header ← R.header (is_none unit) sps pps (rbsp_of u)

@@ -44,21 +44,21 @@ with_end s = record s { ended = true }
 
 -- ---- pictures
 
--- a header that came in this PH unit, or in none
+-- A header that came in this PH unit, or in none.
 abbrev pub with_header : BegunPicture → List ℕ → CurrentPicture → CurrentPicture
 with_header b unit c = record c { stage = stages.Headed b; bytes = unit; header_end = length unit; slices = [] }
 
--- the first slice comes, where the header came
+-- The first slice comes, where the header came.
 abbrev pub first_comes : Kind → Stage → Stage
 first_comes k stages.Nothing = stages.Nothing
 first_comes k (stages.Headed b) = stages.Going (record { begun = b; kind = k })
 first_comes k (stages.Going g) = stages.Going g
 
--- before the first slice: what the picture is, its adaptation parameter sets, and the messages gathered for it; no slice came
+-- Before the first slice: what the picture is, its adaptation parameter sets, and the messages gathered for it; no slice came.
 abbrev pub with_kind : Kind → List (Option Aps) → List Message → CurrentPicture → CurrentPicture
 with_kind k sets messages c = record c { stage = first_comes k c.stage; slices = []; bodies = sets; messages = messages }
 
--- a slice behind so many bytes
+-- A slice after so many bytes.
 abbrev pub slot_behind : ℕ → List ℕ → ReadSlice → SliceSlot
 slot_behind at unit r = record { header = r.header; start = at; payload = at + r.payload; end = at + length unit }
 
@@ -71,16 +71,16 @@ with_slot slot c = record c { slices = c.slices ++ slot ∷ [] }
 abbrev pub with_slice : List ℕ → ReadSlice → CurrentPicture → CurrentPicture
 with_slice unit r c = with_slot (slot_behind (length c.bytes) unit r) (with_bytes unit c)
 
--- of all that is kept the picture changes
+-- Of all that is kept the picture changes.
 abbrev pub with_picture : CurrentPicture → State → State
 with_picture c s = record s { picture = c }
 
--- what the sets that a PPS id refers to make up is kept
+-- What the sets that a PPS id refers to make up is kept.
 abbrev pub is_made : ℕ → Option MadeSets → Bool
 is_made id None = false
 is_made id (Some m) = m.id == id
 
--- a picture begins with such a header, and what is in force for it is kept
+-- A picture begins with such a header, and what is in force for it is kept.
 abbrev pub with_begun : BegunPicture → List ℕ → State → State
 with_begun b unit s = record s {
   made = Some (record { id = b.pps_id; sets = b.sets });
@@ -88,7 +88,7 @@ with_begun b unit s = record s {
   unchanged = s.unchanged && is_made b.pps_id s.made;
 }
 
--- and no messages are gathered then, and no sequence has ended
+-- No messages are gathered then, and no sequence has ended.
 abbrev pub with_begun_picture : CurrentPicture → State → State
 with_begun_picture c s = record s { picture = c; gathered = []; gathered_len = 0; ended = false }
 
@@ -106,7 +106,7 @@ came_all b c = length c.slices == b.sets.slices
 abbrev pub settled : BegunPicture → Kind → State → State
 settled b k s = cond (came_all b s.picture) (with_whole b k s) s
 
--- messages are gathered, or would pass the limit
+-- Messages are gathered, or would pass the limit.
 abbrev pub Gathers : Bool → List Message → State → State → Type 0
 Gathers true messages old new = new ≡ with_messages messages old
 Gathers false messages old new = (new ≡ old) × (message_limit < old.gathered_len + spelled_length messages)

@@ -18,7 +18,7 @@ class_seen classes.Slice = slice_unit
 class_seen classes.End = end_unit
 class_seen classes.Sei = sei_unit
 
--- the types that are none of those of sets and headers
+-- The types that are none of those of sets and headers.
 abbrev pub class_behind_sets : ℕ → Class
 class_behind_sets t =
     cond (is_slice_type t) slice_unit (cond (is_end_type t) end_unit (cond (t == types.PREFIX_SEI_NUT) sei_unit other_unit))

@@ -25,7 +25,7 @@ use Rattle.vx_assemble.specs.Held.{Held, Took, IsBounded}
 use Rattle.vx_assemble.specs.declared.fault.First.{First}
 use Rattle.vx_assemble.specs.Feed.{Feeding, EndsAtEnd, HasFed, HasGone}
 
--- each unit has a byte of its own, and once a read failed the feed doesn't go on
+-- Each unit has a byte of its own, and once a read failed the feed doesn't go on.
 pub record IsInStep (f : Feeding) : Type 0 where
   pub units : f.first ≡ None → f.units + ahead f.reader.splitter ≤ fed f.reader.splitter
   pub fed : fed f.reader.splitter ≤ 2 ^ 40
@@ -33,11 +33,11 @@ pub record IsInStep (f : Feeding) : Type 0 where
   pub held : HoldsFew f.reader
   pub bounded : IsBounded f.assembler
 
--- a feed of these parts that goes on
+-- A feed of these parts that goes on.
 abbrev pub feeding : reader.Reading → Held → ℕ → Feeding
 feeding r a n = record { reader = r; assembler = a; units = n; first = None }
 
--- The unit at a place was taken behind those before it, and this is told of it; or why it was not.
+-- The unit at a place was taken after those before it, and this is told of it; or why it was not.
 abbrev pub Accepts : Readers → List Reading → Held → List ℕ → ℕ → Result Taken FeedFault → Type 0
 Accepts R before new unit place (Ok (Nal header offset bytes what)) =
     Took (reads R before unit) before new what × (header ≡ header_of unit) × (offset ≡ place) × (bytes ≡ length unit)
@@ -47,13 +47,13 @@ Accepts R before new unit place (Err (faults.Refused r)) = reads R before unit �
 Accepts R before new unit place (Err faults.SourceFailed) = ⊥
 Accepts R before new unit place (Err (faults.Stopped f)) = ⊥
 
--- the fault of an assembler as one of a feed
+-- The fault of an assembler as one of a feed.
 abbrev pub fault_of : AssembleFault → FeedFault
 fault_of assembler.Memory = faults.Memory
 fault_of (assembler.Refused r) = faults.Refused r
 fault_of (assembler.Stopped f) = faults.Stopped f
 
--- the fault of a read as one of a feed
+-- The fault of a read as one of a feed.
 abbrev pub read_fault : ReadFault → FeedFault
 read_fault read_faults.Memory = faults.Memory
 read_fault read_faults.SourceFailed = faults.SourceFailed
@@ -74,7 +74,7 @@ pub record Seeks (old f : Feeding) (left left' : Option (List ℕ)) (faults faul
   pub stopped : (first : First) → old.first ≡ Some first → (f ≡ old) × (left' ≡ left) × (faults' ≡ faults)
   pub units : f.units ≡ old.units
 
--- where a feed comes to that took this; None where it is a unit that completes no picture
+-- Where a feed comes to that took this; None where it is a unit that completes no picture.
 abbrev pub step_by : Taken → Option Step
 step_by End = Some steps.End
 step_by (Nal header place bytes accepted.PictureDone) = Some steps.Picture

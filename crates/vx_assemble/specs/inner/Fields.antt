@@ -5,13 +5,13 @@ use Rattle.vx_bits.specs.declared.refusal.ReadError.{ReadError}
 use Rattle.vx_bits.specs.declared.refusal.ReadError.TheVariants as errors
 use Rattle.vx_assemble.specs.Fields.{inside_item}
 
--- memory didn't run out
+-- Memory didn't run out.
 abbrev pub HasAnswered : Result (Unit {0}) ReadError → Type 0
 HasAnswered (Ok done) = Unit {0}
 HasAnswered (Err errors.Memory) = ⊥
 HasAnswered (Err (errors.Refused r)) = Unit {0}
 
--- what stands before a picture header, inside a slice
+-- What stands before a picture header, inside a slice.
 abbrev pub head_items : Bool → List Item
 head_items true = inside_item ∷ []
 head_items false = []

@@ -21,7 +21,7 @@ use Rattle.vx_assemble.specs.declared.state.Stage.{Stage}
 use Rattle.vx_assemble.specs.declared.state.Stage.TheVariants as stages
 use Rattle.vx_assemble.specs.declared.state.State.{State}
 
--- an assembler, as its callers see it: what it keeps of the units, what it told of the last one, and why it takes no more
+-- An assembler, as its callers see it: what it keeps of the units, what it told of the last one, and why it takes no more.
 pub record Held : Type 0 where
   pub state : State
   pub told : Accepted
@@ -29,7 +29,7 @@ pub record Held : Type 0 where
 
 -- ---- the picture that was begun last
 
--- its header with what is in force for it, where this is its PH unit
+-- Its header with what is in force for it, where this is its PH unit.
 abbrev pub begun_of : BegunPicture → Option (List ℕ) → Begun
 begun_of b unit = record {
   sps = b.sets.sps;
@@ -40,7 +40,7 @@ begun_of b unit = record {
   unit = unit;
 }
 
--- the header, and what the picture is, as far as it came
+-- The header, and what the picture is, as far as it came.
 abbrev pub header_at : Stage → Option BegunPicture
 header_at stages.Nothing = None
 header_at (stages.Headed b) = Some b
@@ -54,21 +54,21 @@ kind_at (stages.Going g) = Some g.kind
 abbrev pub begun_in : CurrentPicture → Option Begun
 begun_in s = option_map (λ b. begun_of b (header_unit_in s.bytes s.header_end)) (header_at s.stage)
 
--- a slice that is kept by its places in the picture's bytes
+-- A slice that is kept by its places in the picture's bytes.
 abbrev pub slice_of : List ℕ → SliceSlot → Slice
 slice_of bytes slot = record {
   unit = slice_range bytes slot.start slot.end;
   header = record { fields = slot.header.fields; subpic = slot.header.subpic; payload = slot.payload - slot.start };
 }
 
--- a header, whose slices are to come
+-- A header, whose slices are to come.
 pub record IsHeaded (s : CurrentPicture) (b : Begun) : Type 0 where
   pub begun : begun_in s ≡ Some b
   pub kind : kind_at s.stage ≡ None
   pub slices : s.slices ≡ []
   pub size : length s.bytes ≡ unit_size b.unit
 
--- a picture, as far as its slices came
+-- A picture, as far as its slices came.
 pub record IsGoing (s : CurrentPicture) (p : Picture) : Type 0 where
   pub begun : begun_in s ≡ Some p.begun
   pub kind : kind_at s.stage ≡ Some p.kind
@@ -88,11 +88,11 @@ abbrev pub last_sps : List Picture → Option (List Item)
 last_sps [] = None
 last_sps (p ∷ earlier) = Some p.begun.sps
 
--- of what is kept
+-- Of what is kept.
 abbrev pub last_held : State → Option (List Item)
 last_held s = option_map (λ f. f.sps) s.last
 
--- what is kept apart from that picture, behind units that were read as these, the latest first
+-- What is kept apart from that picture, after units that were read as these, the latest first.
 pub record IsApart (s : State) (before : List Reading) : Type 0 where
   pub sps : (id : ℕ) → slice_index_or s.sps id None ≡ stored_sps id before
   pub pps : (id : ℕ) → slice_index_or s.pps id None ≡ stored_pps id before
@@ -108,14 +108,14 @@ aps_items a =
     ∷ record { field = aps_adaptation_parameter_set_id; value = pos a.id }
     ∷ []
 
--- the items of the latest unit, where it isn't kept in a table
+-- The items of the latest unit, where it isn't kept in a table.
 abbrev pub AreItems : List Item → List Reading → Type 0
 AreItems items [] = Unit {0}
 AreItems items (vps_read v ∷ before) = items ≡ v
 AreItems items (aps_read a ∷ before) = items ≡ aps_items a
 AreItems items (_ ∷ before) = Unit {0}
 
--- what is kept behind units that were read as these, none of which was refused
+-- What is kept after units that were read as these, none of which was refused.
 pub record IsHeld (s : State) (before : List Reading) : Type 0 where
   pub apart : IsApart s before
   pub picture : Keeps s.picture (current before)

@@ -16,23 +16,23 @@ use Rattle.vx_assemble.specs.declared.state.BegunPicture.{BegunPicture}
 use Rattle.vx_assemble.specs.inner.Held.{begun_of}
 use Rattle.vx_assemble.specs.inner.Takes.{at_begun, header_read_as}
 
--- a unit of this type and TemporalId is one of a picture of such a header and type
+-- A unit of this type and TemporalId is one of a picture of such a header and type.
 abbrev pub same_picture : ℕ → ℕ → ℕ → ℕ → Result (Unit {0}) Refusal
 same_picture tid nal_type t u = do
   _ ← refuse_if (not (u == tid)) (structure rules.TEMPORAL_ID_DIFFERS)
   refuse_if (not (t == nal_type)) (structure rules.TYPES_DIFFER)
 
--- the first of these adaptation parameter sets that isn't there is missing
+-- The first of these adaptation parameter sets that isn't there is missing.
 abbrev pub all_there : List (Option Aps) → List Slot → Result (Unit {0}) Refusal
 all_there sets [] = Ok tt
 all_there sets (slot ∷ slots) =
     cond (is_none (aps_at sets slot.kind slot.id)) (Err (missing slot.kind slot.id)) (all_there sets slots)
 
--- the one at this place is the next one behind so many
+-- The one at this place is the next one after so many.
 abbrev pub next_slice : Numbers → ℕ → SliceHeader → Result (Unit {0}) Refusal
 next_slice layout count h = refuse_if (not (slices_before layout h == count)) (structure rules.SLICE_MISSING)
 
--- what a slice of these items names, and its quantization parameter
+-- What a slice of these items names, and its quantization parameter.
 abbrev pub items_only : List Item → SliceHeader
 items_only items = record { fields = items; subpic = 0; payload = 0 }
 
@@ -42,17 +42,17 @@ names_in p header items = names_of p header (items_only items)
 abbrev pub qp_in : List Item → List Item → List Item → ℤ
 qp_in p header items = slice_qp p header (items_only items)
 
--- the quantization parameter is in its range
+-- The quantization parameter is in its range.
 abbrev pub qp_checked : List Item → ℤ → Result (Unit {0}) Refusal
 qp_checked s qp = refuse_if (not (is_qp s qp)) (structure rules.QP_RANGE)
 
--- there is a payload, and the picture isn't too long: of so many bytes before this unit
+-- There is a payload, and the picture isn't too long: of so many bytes before this unit.
 abbrev pub in_limits : ℕ → ℕ → ℕ → Result (Unit {0}) Refusal
 in_limits size more payload = do
   _ ← refuse_if (nat_le more payload) (structure rules.EMPTY_PAYLOAD)
   refuse_if (nat_lt picture_limit (size + more)) (Limit rules.LONG_PICTURE)
 
--- a slice that was read joins so many of a picture, where these sets are in force
+-- A slice that was read joins so many of a picture, where these sets are in force.
 abbrev pub checked : Begun → List (Option Aps) → ℕ → ℕ → ℕ → SliceHeader → Result (Unit {0}) Refusal
 checked b sets count size more h = do
   _ ← next_slice b.layout count h
@@ -60,7 +60,7 @@ checked b sets count size more h = do
   _ ← qp_checked b.sps (qp_in b.pps b.header h.fields)
   in_limits size more h.payload
 
--- what is known of a slice that has joined a picture of this type
+-- What is known of a slice that has joined a picture of this type.
 pub record IsJoined (b : BegunPicture) (t : ℕ) (sets : List (Option Aps)) (size : ℕ) (r : ReadSlice) : Type 0 where
   pub read : IsReadAt (at_begun t b) r.header
   pub subpic : r.header.subpic < length b.sets.layout.subpics

@@ -5,7 +5,7 @@ use Rattle.vx_assemble.specs.declared.state.CurrentPicture.{CurrentPicture}
 use Rattle.vx_assemble.specs.declared.state.Stage.{Stage}
 use Rattle.vx_assemble.specs.declared.state.Stage.TheVariants as stages
 
--- what there is of none
+-- What there is of none.
 abbrev pub no_parts : Parts
 no_parts = record {
   kind = record { nal_type = 0; temporal_id = 0; clvss = false; after_eos = false; poc = pos 0 };
@@ -20,7 +20,7 @@ no_parts = record {
   messages = [];
 }
 
--- of a picture that came so far
+-- Of a picture that came so far.
 abbrev pub parts_by : Stage → CurrentPicture → Parts
 parts_by stages.Nothing c = no_parts
 parts_by (stages.Headed b) c = no_parts

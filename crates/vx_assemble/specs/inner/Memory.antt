@@ -20,7 +20,7 @@ use Rattle.vx_assemble.specs.Feed.{Feeding, Gives, seen_of}
 use Rattle.vx_assemble.specs.Memory.{given, HasSeen, Sees}
 use Rattle.vx_assemble.specs.inner.Feed.{fault_of}
 
--- each unit has a byte of its own
+-- Each unit has a byte of its own.
 pub record IsInMemory (f : Feeding) : Type 0 where
   pub units : f.first ≡ None → f.units + ahead f.reader.splitter ≤ fed f.reader.splitter
   pub fed : fed f.reader.splitter ≤ 2 ^ 40
@@ -33,14 +33,14 @@ pub record IsGiven (bytes : List ℕ) (h : Splitting) (n : ℕ) : Type 0 where
   pub seen : seen_of front ≡ seen_of bytes
   pub all : is_all h ≡ nat_le (length bytes) source_limit
 
--- a unit was taken, or the end, or why there is none
+-- A unit was taken, or the end, or why there is none.
 abbrev pub GivesUnit : Readers → List ℕ → List UnitPlace → List Reading → Feeding → Result (Option Accepted) AssembleFault → Type 0
 GivesUnit R g places before f (Ok (Some what)) =
     (header : NalHeader) × (place : ℕ) × (bytes : ℕ) × Gives R g places before f (Ok (Some (Nal header place bytes what)))
 GivesUnit R g places before f (Ok None) = Gives R g places before f (Ok (Some End))
 GivesUnit R g places before f (Err fault) = Gives R g places before f (Err (fault_of fault))
 
--- where that comes to; None where it is a unit that completes no picture
+-- Where that comes to; None where it is a unit that completes no picture.
 abbrev pub step_at : Option Accepted → Option Step
 step_at None = Some steps.End
 step_at (Some accepted.PictureDone) = Some steps.Picture
@@ -50,7 +50,7 @@ step_at (Some (accepted.Sps id)) = None
 step_at (Some (accepted.Pps id)) = None
 step_at (Some (accepted.Aps kind id)) = None
 
--- it went on, or took a unit that completes no picture
+-- It went on, or took a unit that completes no picture.
 abbrev pub SeesOn : Readers → List ℕ → List Picture → Option Ending → List Picture → Feeding → Result (Option Step) AssembleFault → Type 0
 SeesOn R bytes qs ending ps f (Ok None) = HasSeen R f bytes ps
 SeesOn R bytes qs ending ps f (Ok (Some step)) = Sees R bytes qs ending ps f (Ok step)

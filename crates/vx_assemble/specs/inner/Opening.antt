@@ -37,13 +37,13 @@ abbrev pub opened_in : State → Begun → ℕ → ℕ → Result Kind Refusal
 opened_in s b t tid =
     opened_as (held_anew s && not (is_irap_or_gdr t)) (held_changed (last_held s) b.sps) (held_kind s b t tid)
 
--- what the code of counts is given
+-- What the code of counts is given.
 pub record IsCountedBy (c : CountFields) (sps header : List Item) : Type 0 where
   pub max : 2 ^ c.lsb_bits ≡ max_lsb sps
   pub lsb : c.lsb ≡ lsb_of header
   pub cycle : c.msb_cycle ≡ msb_cycle header
 
--- a picture that later counts can come from
+-- A picture that later counts can come from.
 abbrev pub tid0_by : List Item → Kind → Bool
 tid0_by header k =
     (k.temporal_id == 0) && (not (is_non_ref header) && (not (k.nal_type == RADL_NUT) && not (k.nal_type == RASL_NUT)))

@@ -25,7 +25,7 @@ use Rattle.vx_assemble.specs.declared.state.State.{State}
 use Rattle.vx_assemble.specs.inner.Held.{begun_of, slice_of, header_at, kind_at, last_held}
 use Rattle.vx_assemble.specs.inner.Takes.{NamesSmall, at_begun}
 
--- what two sets make up
+-- What two sets make up.
 pub record AreMade (f : InForce) : Type 0 where
   pub size : same_size f.sps f.pps ≡ true
   pub make : MakeLayout f.sps f.pps
@@ -37,38 +37,38 @@ pub record AreMade (f : InForce) : Type 0 where
   pub few_subpics : length f.layout.subpics ≤ 1000
   pub scope : f.scope ≡ in_force f.sps f.pps
 
--- two stored sets, to which a PPS id refers, and what they make up
+-- Two stored sets, to which a PPS id refers, and what they make up.
 pub record AreStored (sps pps : List (Option (List Item))) (m : MadeSets) : Type 0 where
   pub pps_stored : slice_index_or pps m.id None ≡ Some m.sets.pps
   pub sps_stored : slice_index_or sps (referred_sps m.sets.pps) None ≡ Some m.sets.sps
   pub made : AreMade m.sets
 
--- such sets are kept, or none
+-- Such sets are kept, or none.
 abbrev pub AreKept : List (Option (List Item)) → List (Option (List Item)) → Option MadeSets → Type 0
 AreKept sps pps None = Unit {0}
 AreKept sps pps (Some m) = AreStored sps pps m
 
--- the SPS of the header that came last
+-- The SPS of the header that came last.
 abbrev pub begun_sps : Stage → Option (List Item)
 begun_sps stage = option_map (λ b. b.sets.sps) (header_at stage)
 
--- the sets that are kept are under this SPS
+-- The sets that are kept are under this SPS.
 abbrev pub AreUnder : Option (List Item) → Option MadeSets → Type 0
 AreUnder sps None = Unit {0}
 AreUnder sps (Some m) = sps ≡ Some m.sets.sps
 
--- this is the SPS of the last whole picture, where that is known of the picture that was begun last
+-- This is the SPS of the last whole picture, where that is known of the picture that was begun last.
 abbrev pub KnowsSps : State → Option (List Item) → Type 0
 KnowsSps s sps = s.unchanged ≡ true → last_held s ≡ sps
 
--- a picture header, with the lists that its items come to, and ids that there are
+-- A picture header, with the lists that its items come to, and ids that there are.
 pub record IsHeader (b : BegunPicture) : Type 0 where
   pub sets : AreMade b.sets
   pub header : b.header ≡ picture_header_of (begun_of b None)
   pub read : picture.IsHeader (structures b.sets.sps) (in_force b.sets.sps b.sets.pps) b.header
   pub small : NamesSmall b.header.fields
 
--- a slice of that picture, which stands in these bytes, where these adaptation parameter sets are in force
+-- A slice of that picture, which stands in these bytes, where these adaptation parameter sets are in force.
 pub record IsSlot (b : BegunPicture) (bytes : List ℕ) (sets : List (Option Aps)) (slot : SliceSlot) : Type 0 where
   pub placed : IsPlaced bytes slot
   pub subpic : slot.header.subpic < length b.sets.layout.subpics
@@ -76,18 +76,18 @@ pub record IsSlot (b : BegunPicture) (bytes : List ℕ) (sets : List (Option Aps
   pub qp : is_qp b.sets.sps (slice_qp b.sets.pps b.header.fields (read_of slot.header)) ≡ true
   pub header : slot.header ≡ slice_header_of (begun_of b None) (slice_of bytes slot).header
 
--- the header, and the slices under it
+-- The header, and the slices under it.
 abbrev pub AreSlots : Option BegunPicture → List ℕ → List (Option Aps) → List SliceSlot → Type 0
 AreSlots None bytes bodies slots = Unit {0}
 AreSlots (Some b) bytes bodies slots = IsHeader b × AllByRecursion (IsSlot b bytes bodies) slots
 
--- the slices were read under the header, as those of a picture of this kind
+-- The slices were read under the header, as those of a picture of this kind.
 abbrev pub AreRead : Stage → List SliceSlot → Type 0
 AreRead stages.Nothing slots = Unit {0}
 AreRead (stages.Headed b) slots = Unit {0}
 AreRead (stages.Going g) slots = AllByRecursion (λ s. IsReadAt (at_begun g.kind.nal_type g.begun) s.header) slots
 
--- what a picture is whose first slice came: its type and its TemporalId are those of a NAL unit
+-- What a picture is whose first slice came: its type and its TemporalId are those of a NAL unit.
 abbrev pub IsOfUnit : Option Kind → Type 0
 IsOfUnit None = Unit {0}
 IsOfUnit (Some k) = (k.nal_type < 32) × (k.temporal_id < 7)
@@ -97,7 +97,7 @@ pub record AreBodies (sets : List (Option Aps)) : Type 0 where
   pub places : length sets ≡ 24
   pub lmcs : (i : ℕ) → 12 ≤ i → i < 16 → slice_index_or sets i None ≡ None
 
--- the picture lies in order
+-- The picture lies in order.
 pub record IsOrdered (c : CurrentPicture) : Type 0 where
   pub kind : IsOfUnit (kind_at c.stage)
   pub bytes : length c.bytes ≤ picture_limit
@@ -118,7 +118,7 @@ pub record IsInOrder (s : State) : Type 0 where
   pub spelled : s.gathered_len ≡ spelled_length s.gathered
   pub gathered : s.gathered_len ≤ message_limit
 
--- all slices of a picture came
+-- All slices of a picture came.
 abbrev pub AreAll : Stage → List SliceSlot → Type 0
 AreAll stages.Nothing slots = ⊥
 AreAll (stages.Headed b) slots = ⊥
@@ -127,7 +127,7 @@ AreAll (stages.Going g) slots = (0 < length slots) × (length slots ≡ length g
 pub record IsComplete (c : CurrentPicture) : Type 0 where
   pub slices : AreAll c.stage c.slices
 
--- what was told of the last unit is so
+-- What was told of the last unit is so.
 pub record IsKept (s : State) (told : Accepted) : Type 0 where
   pub order : IsInOrder s
   pub done : told ≡ accepted.PictureDone → IsComplete s.picture

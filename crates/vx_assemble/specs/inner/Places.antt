@@ -6,7 +6,7 @@ use Rattle.vx_pic.specs.Parts.{stored_sets}
 use Rattle.vx_assemble.specs.declared.join.Place.{Place}
 use Rattle.vx_assemble.specs.inner.Held.{begun_of}
 
--- it is that of the picture
+-- It is that of the picture.
 pub record IsAt (a : Place) (p : Picture) : Type 0 where
   pub begun : begun_of a.begun.now p.begun.unit ≡ p.begun
   pub kind : a.kind ≡ p.kind

@@ -18,33 +18,33 @@ use Rattle.vx_assemble.specs.inner.Takes.{slice_read_as}
 use Rattle.vx_assemble.specs.inner.Joining.{IsJoined}
 use Rattle.vx_assemble.specs.inner.Changes.{with_kind, with_slice, with_begun_picture, counts_behind, came_all, settled}
 
--- a picture of which no slice came
+-- A picture of which no slice came.
 pub record IsFresh (c : CurrentPicture) (k : BegunPicture) (b : Begun) : Type 0 where
   pub begun : begun_of k b.unit ≡ b
   pub slices : c.slices ≡ []
   pub size : length c.bytes ≡ unit_size b.unit
 
--- the first slice as it is read
+-- The first slice as it is read.
 abbrev pub first_read_as : Begun → List ℕ → Opened → Reading
 first_read_as b unit o = first_slice b o.kind (slice_read_as unit o.read)
 
--- a slice has joined the picture
+-- A slice has joined the picture.
 pub record HasJoined (c : CurrentPicture) (size : ℕ) (r : ReadSlice) : Type 0 where
   pub going : GoingPicture
   pub is : c.stage ≡ stages.Going going
   pub joined : IsJoined going.begun going.kind.nal_type c.bodies size r
 
--- the first one has, of a picture whose header came
+-- The first one has, of a picture whose header came.
 pub record HasJoinedFirst (c : CurrentPicture) (size : ℕ) (o : Opened) : Type 0 where
   pub begun : BegunPicture
   pub is : c.stage ≡ stages.Headed begun
   pub joined : IsJoined begun o.kind.nal_type o.bodies size o.read
 
--- with what a picture begins with
+-- With what a picture begins with.
 abbrev pub with_first : List ℕ → Opened → State → State
 with_first unit o s = with_begun_picture (with_slice unit o.read (with_kind o.kind o.bodies s.gathered s.picture)) s
 
--- whether a picture is done is told, and kept
+-- Whether a picture is done is told, and kept.
 abbrev pub told_settled : BegunPicture → CurrentPicture → Accepted
 told_settled k c = cond (came_all k c) accepted.PictureDone accepted.Nothing
 
@@ -52,7 +52,7 @@ pub record IsSettled (old new : State) (what : Accepted) : Type 0 where
   pub new_is : (g : GoingPicture) → old.picture.stage ≡ stages.Going g → new ≡ settled g.begun g.kind old
   pub told : (g : GoingPicture) → old.picture.stage ≡ stages.Going g → what ≡ told_settled g.begun old.picture
 
--- what later pictures come to behind the picture that was begun, where all its slices came
+-- What later pictures come to after the picture that was begun, where all its slices came.
 abbrev pub whole_of : Stage → State → Option Whole
 whole_of stages.Nothing s = None
 whole_of (stages.Headed b) s = None

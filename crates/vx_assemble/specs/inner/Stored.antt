@@ -6,11 +6,11 @@ use Rattle.vx_bits.specs.declared.refusal.Refusal.{Refusal}
 use Rattle.vx_pic.specs.Rules.{Readers}
 use Rattle.vx_pic.specs.H266.{AreOfH266}
 
--- the set is read from these bytes
+-- The set is read from these bytes.
 abbrev pub IsReadAs : {S : Type 0} → (Readers → List ℕ → Result S Refusal) → S → List ℕ → Type 0
 IsReadAs reads set rbsp = (R : Readers) → AreOfH266 R → reads R rbsp ≡ Ok set
 
--- a set that is stored under this id, which is its own, is read from these bytes
+-- A set that is stored under this id, which is its own, is read from these bytes.
 pub record IsSentAgain {S : Type 0} (reads : Readers → List ℕ → Result S Refusal) (id_of : S → ℕ) (sets : List (Option S)) (rbsp : List ℕ) (id : ℕ)
     : Type 0 where
   pub set : S
@@ -18,12 +18,12 @@ pub record IsSentAgain {S : Type 0} (reads : Readers → List ℕ → Result S R
   pub own : id ≡ id_of set
   pub read : IsReadAs reads set rbsp
 
--- what sets made up is kept where they stand as they stood, or isn't kept
+-- What sets made up is kept where they stand as they stood, or isn't kept.
 abbrev pub KeepsMade : {S M : Type 0} → List (Option S) → List (Option S) → Option M → Option M → Type 0
 KeepsMade old new made None = Unit {0}
 KeepsMade old new made (Some m) = (new ≡ old) × (made ≡ Some m)
 
--- the set of these bytes stands under its id, and each other one where it stood
+-- The set of these bytes stands under its id, and each other one where it stood.
 pub record IsPut {S M : Type 0} (reads : Readers → List ℕ → Result S Refusal) (id_of : S → ℕ) (old new : List (Option S)) (made made' : Option M)
     (rbsp : List ℕ) (id : ℕ) : Type 0 where
   pub set : S

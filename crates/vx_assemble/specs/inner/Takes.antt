@@ -23,35 +23,35 @@ use Rattle.vx_assemble.specs.declared.state.State.{State}
 use Rattle.vx_assemble.specs.inner.Held.{begun_of, IsHeld}
 pub use Rattle.vx_assemble.specs.inner.Given.{Gives}
 
--- an answer, seen as something that it has
+-- An answer, seen as something that it has.
 abbrev pub answer_by : {A B : Type 0} → (A → B) → Result A ReadError → Result B ReadError
 answer_by f (Ok a) = Ok (f a)
 answer_by f (Err e) = Err e
 
 -- ---- headers
 
--- the header is read as this in a unit of these bytes
+-- The header is read as this in a unit of these bytes.
 abbrev pub header_read_as : ReadSlice → SliceHeader
 header_read_as r = record { fields = r.header.fields; subpic = r.header.subpic; payload = r.payload }
 
 abbrev pub slice_read_as : List ℕ → ReadSlice → Slice
 slice_read_as unit r = record { unit = unit; header = header_read_as r }
 
--- no set that it names has an id that none can have
+-- No set that it names has an id that none can have.
 abbrev pub AreSmall : List Slot → Type 0
 AreSmall slots = AllByRecursion (λ slot. slot.id < id_count) slots
 
--- those that the items of a picture header, or of a slice header, name: filters, LMCS and scaling lists
+-- Those that the items of a picture header, or of a slice header, name: filters, LMCS and scaling lists.
 pub record NamesSmall (items : List Item) : Type 0 where
   pub filters : AreSmall (named_filters items)
   pub lmcs : AreSmall (named aps.LMCS ph.ph_lmcs_aps_id items)
   pub scaling : AreSmall (named aps.SCALING ph.ph_scaling_list_aps_id items)
 
--- what a slice of this type is read at under this picture header
+-- What a slice of this type is read at under this picture header.
 abbrev pub at_begun : ℕ → BegunPicture → At
 at_begun t b = at_sets t b.sets.sps b.sets.pps b.header b.sets.ids b.sets.layout
 
--- a slice header that was read under this picture header, as one of this type
+-- A slice header that was read under this picture header, as one of this type.
 pub record IsReadUnder (b : BegunPicture) (t : ℕ) (r : ReadSlice) : Type 0 where
   pub read : IsReadAt (at_begun t b) r.header
   pub subpic : r.header.subpic < length b.sets.layout.subpics
@@ -60,11 +60,11 @@ pub record IsReadUnder (b : BegunPicture) (t : ℕ) (r : ReadSlice) : Type 0 whe
 
 -- ---- units
 
--- a set that slices refer to is refused within a picture
+-- A set that slices refer to is refused within a picture.
 abbrev pub outside_picture : List Reading → Result (Unit {0}) Refusal
 outside_picture before = refuse_if (is_within_picture (current before)) (structure rules.SET_INSIDE_PICTURE)
 
--- what ends a picture, or begins one, is refused where a slice of the last one is missing
+-- What ends a picture, or begins one, is refused where a slice of the last one is missing.
 abbrev pub no_slice_missing : List Reading → Result (Unit {0}) Refusal
 no_slice_missing before = refuse_if (is_open (current before)) (structure rules.SLICE_MISSING)
 

@@ -8,25 +8,25 @@ use Rattle.vx_fit.specs.FrameLines.{HasOneTile, IsBorder, IsFull, IsInner, IsLin
 use Rattle.vx_fit.specs.Placing.{greatest_size}
 use Rattle.vx_fit.specs.Sources.{IsSized}
 
--- bounds that are exactly the lines below n
+-- Bounds that are exactly the lines below n.
 pub record LinesBelow (IsLine : ℕ → Type 0) (bounds : List ℕ) (n : ℕ) : Type 0 where
   pub rises : Rises bounds
   pub each : (m : ℕ) → Contains bounds m ↔ ((m < n) × IsLine m)
 
--- strictly inside a picture that stands at `from`, the bounds are its own
+-- Strictly inside a picture that stands at `from`, the bounds are its own.
 abbrev pub AreOwn : List ℕ → ℕ → ℕ → List ℕ → Type 0
 AreOwn bounds from size own = LinesAreOwn (Contains bounds) from size own
 
--- the lowest region that doesn't keep its lines, or none where all do
+-- The lowest region that doesn't keep its lines, or none where all do.
 abbrev pub IsLinesAnswer : List Rect → List Numbers → Option ℕ → Type 0
 IsLinesAnswer corners parts None = (k : ℕ) → k < length corners → KeepsLines corners parts k
 IsLinesAnswer corners parts (Some k) = IsLinesFault corners parts k
 
--- the line n may be left out as far as the region s goes
+-- The line n may be left out as far as the region s goes.
 abbrev pub LetsDrop : Rect → Numbers → ℕ → Type 0
 LetsDrop s p n = (¬ IsInner s p n) × (IsBorder s n → HasOneTile p)
 
--- pictures in regions of a frame that isn't too large, whose left and upper borders are lines
+-- Pictures in regions of a frame that isn't too large, whose left and upper borders are lines.
 pub record AreFramed (corners : List Rect) (parts : List Numbers) : Type 0 where
   pub sized : AllZip IsSized corners parts
   pub same : length corners ≡ length parts

@@ -18,52 +18,52 @@ use Rattle.vx_fit.specs.FrameLines.{HaveLines, IsLinesFault}
 use Rattle.vx_fit.specs.Placing.{FitTogether, frame_height, frame_width, in_ctus}
 use Rattle.vx_fit.specs.Sources.{IsSource}
 
--- regions have one fault at most
+-- Regions have one fault at most.
 abbrev pub FitFaultIsOne : Type 0
 FitFaultIsOne = (placed : List Placed) (ctb : ℕ) (d e : FitFault) → IsFitFault placed ctb d → IsFitFault placed ctb e → d ≡ e
 
--- and where they fit together they have none
+-- Where they fit together they have none.
 abbrev pub FittingHasNoFault : Type 0
 FittingHasNoFault = (placed : List Placed) (ctb : ℕ) (e : FitFault) → FitTogether placed ctb → ¬ IsFitFault placed ctb e
 
--- and where they have none they fit together
+-- Where they have none they fit together.
 abbrev pub FaultlessFits : Type 0
 FaultlessFits = (placed : List Placed) (ctb : ℕ) → ((e : FitFault) → ¬ IsFitFault placed ctb e) → FitTogether placed ctb
 
--- what a region's CTUs have of the frame's samples is the region: they may be cut at the frame's right and lower border alone
+-- What a region's CTUs have of the frame's samples is the region: they may be cut at the frame's right and lower border alone.
 pub record AreItsSamples (placed : List Placed) (ctb : ℕ) (p : Placed) : Type 0 where
   pub left : (in_ctus ctb p).x * ctb ≡ p.x
   pub top : (in_ctus ctb p).y * ctb ≡ p.y
   pub wide : min (((in_ctus ctb p).x + (in_ctus ctb p).w) * ctb) (frame_width placed) - (in_ctus ctb p).x * ctb ≡ p.w
   pub high : min (((in_ctus ctb p).y + (in_ctus ctb p).h) * ctb) (frame_height placed) - (in_ctus ctb p).y * ctb ≡ p.h
 
--- of regions that fit together and aren't empty, the CTUs of each have its samples
+-- Of regions that fit together and aren't empty, the CTUs of each have its samples.
 abbrev pub BorderIsRegions : Type 0
 BorderIsRegions =
     (placed : List Placed) (ctb : ℕ) → 0 < ctb → FitTogether placed ctb → All (λ p. (0 < p.w) × (0 < p.h)) placed
     → All (AreItsSamples placed ctb) placed
 
--- at most one region is the lowest that doesn't keep its lines
+-- At most one region is the lowest that doesn't keep its lines.
 abbrev pub LinesFaultIsOne : Type 0
 LinesFaultIsOne =
     (corners : List Rect) (parts : List Numbers) (j k : ℕ)
     → IsLinesFault corners parts j → IsLinesFault corners parts k → j ≡ k
 
--- and none is where all keep them
+-- None is where all keep them.
 abbrev pub KeepingHasNoFault : Type 0
 KeepingHasNoFault =
     (columns rows : List ℕ) (corners : List Rect) (parts : List Numbers) (k : ℕ)
     → HaveLines columns rows corners parts → ¬ IsLinesFault corners parts k
 
--- the lines make up one list of columns, and one of rows
+-- The lines make up one list of columns, and one of rows.
 abbrev pub LinesAreOne : Type 0
 LinesAreOne =
     (columns rows others below : List ℕ) (corners : List Rect) (parts : List Numbers)
     → HaveLines columns rows corners parts → HaveLines others below corners parts → (columns ≡ others) × (rows ≡ below)
 
--- the frame of these columns, rows and regions, with these pictures in them, is a layout by its regions and as one
--- subpicture; its slices can be listed tile by tile; its region k is picture k; it has the frame's size in CTUs; and its
--- first region begins it, and its last one ends it
+-- The frame of these columns, rows and regions, with these pictures in them, is a layout by its regions and as one subpicture;
+-- its slices can be listed tile by tile; its region k is picture k; it has the frame's size in CTUs; and its first region
+-- begins it, and its last one ends it.
 pub record IsMergedLayout (placed : List Placed) (ctb : ℕ) (columns rows : List ℕ) (corners : List Rect) (parts : List Numbers) : Type 0 where
   pub layout : IsLayout (frame_of columns rows corners parts)
   pub alone : IsLayout (with_one_subpic (frame_of columns rows corners parts))
@@ -74,7 +74,7 @@ pub record IsMergedLayout (placed : List Placed) (ctb : ℕ) (columns rows : Lis
   pub begins : (d : Rect) → Begins (slice_index_or corners 0 d)
   pub ends : (d : Rect) → Ends (last columns) (last rows) (slice_index_or corners (length corners - 1) d)
 
--- this holds of regions that fit together, of sources of their sizes, and of the lines that they all keep
+-- This holds of regions that fit together, of sources of their sizes, and of the lines that they all keep.
 abbrev pub FrameOfRegions : Type 0
 FrameOfRegions =
     (placed : List Placed) (ctb : ℕ) (columns rows : List ℕ) (corners : List Rect) (parts : List Numbers)

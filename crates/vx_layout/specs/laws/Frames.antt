@@ -1,5 +1,5 @@
--- What holds of frames that are put together of pictures. `regions` are the regions of a frame, and `pictures` what
--- stands in them, by their index: of each picture its slices, or in the laws on whole frames its numbers.
+-- What holds of frames that are composed of pictures. `regions` are the regions of a frame, and `pictures` what stands in them,
+-- by their index: of each picture its slices, or in the laws on whole frames its numbers.
 use Rattle.std.specs.Prelude.{◌≡◌, ℕ, ◌+◌, ◌-◌, ◌<◌, ◌≤◌, ◌↔◌, ◌⊎◌, true, List, All, Contains, ◌++◌, length, map, take}
 use Rattle.std.specs.List.{AllPairs, AllZip, Any, slice_index_or}
 use Rattle.vx_layout.specs.declared.numbers.Numbers.{Numbers}
@@ -12,68 +12,69 @@ use Rattle.vx_layout.specs.Rects.{CoversOnce, IsPart, Precedes, fits, in_order, 
 use Rattle.vx_layout.specs.Regions.{counted_from, cut_bounds, moved_to, region_of}
 use Rattle.vx_layout.specs.Shapes.{AreListable, StandTogether}
 
--- the regions that lie in one tile stand next to one another in the list
+-- The regions that lie in one tile stand next to one another in the list.
 abbrev pub TilesHoldRuns : List ℕ → List ℕ → List Rect → Type 0
 TilesHoldRuns columns rows regions = (t : Rect) → IsTile columns rows t → StandTogether regions t
 
--- s begins at a tile row, or stands directly below r with the same left and right borders
+-- s begins at a tile row, or stands directly below r with the same left and right borders.
 abbrev pub BeginsOrFollows : List ℕ → Rect → Rect → Type 0
 BeginsOrFollows rows r s = Contains rows s.y ⊎ (SameSides r s × (r.y + r.h ≡ s.y))
 
--- so does each region, after the one before it
+-- So does each region, after the one before it.
 abbrev pub StandInRuns : List ℕ → List Rect → Type 0
 StandInRuns rows regions =
     (k : ℕ) (d : Rect) → k + 1 < length regions → BeginsOrFollows rows (slice_index_or regions k d) (slice_index_or regions (k + 1) d)
 
--- then the regions of one tile stand next to one another, where they cover a frame once, in order, and their borders split the tiles well
+-- Then the regions of one tile stand next to one another, where they cover a frame once, in order, and their borders split the
+-- tiles well.
 abbrev pub RunsFillTiles : Type 0
 RunsFillTiles =
     (columns rows : List ℕ) (regions : List Rect) → All (IsPart (last columns) (last rows)) regions
     → CoversOnce regions (last columns) (last rows) → AllPairs Precedes regions
     → All (SplitsAtLines columns rows) regions → StandInRuns rows regions → TilesHoldRuns columns rows regions
 
--- counting from a corner that is not further right nor further down, and then moving back, changes nothing
+-- Counting from a corner that is not further right nor further down, and then moving back, changes nothing.
 abbrev pub MovingUndoesCounting : Type 0
 MovingUndoesCounting = (corner r : Rect) → corner.x ≤ r.x → corner.y ≤ r.y → moved_to corner (counted_from corner r) ≡ r
 
--- tiles and a part of the picture split one another well exactly by the part's borders
+-- Tiles and a part of the picture split one another well exactly by the part's borders.
 abbrev pub SplitByBorders : Type 0
 SplitByBorders =
     (columns rows : List ℕ) (s : Rect) → Rises columns → Rises rows → IsPart (last columns) (last rows) s
     → SplitsWell columns rows s ↔ SplitsAtLines columns rows s
 
--- where the bounds inside a region are a picture's own, so are the bounds cut to the region
+-- Where the bounds inside a region are a picture's own, so are the bounds cut to the region.
 abbrev pub CutBoundsAreOwn : Type 0
 CutBoundsAreOwn =
     (bounds own : List ℕ) (from : ℕ) → Rises bounds → Rises own → 0 < last own → SameInside bounds from own
     → cut_bounds bounds from (last own) ≡ own
 
--- the first of rectangles that cover a picture once and stand in order begins it, where it is a part of it
+-- The first of rectangles that cover a picture once and stand in order begins it, where it is a part of it.
 abbrev pub FirstBegins : Type 0
 FirstBegins =
     (rects : List Rect) (w h : ℕ) (d : Rect) → CoversOnce rects w h → AllPairs Precedes rects → 0 < length rects
     → IsPart w h (slice_index_or rects 0 d) → Begins (slice_index_or rects 0 d)
 
--- and the last one ends it
+-- The last one ends it.
 abbrev pub LastEnds : Type 0
 LastEnds =
     (rects : List Rect) (w h : ℕ) (d : Rect) → CoversOnce rects w h → AllPairs Precedes rects → 0 < length rects
     → IsPart w h (slice_index_or rects (length rects - 1) d) → Ends w h (slice_index_or rects (length rects - 1) d)
 
--- the slices of a picture that stands in a region fill it
+-- The slices of a picture that stands in a region fill it.
 abbrev pub PlacedFills : Type 0
 PlacedFills =
     (columns rows : List ℕ) (region : Rect) (picture : Numbers) → IsPlaced columns rows region picture
     → Fills region picture.slices
 
--- slices that fill each of the regions of their index do so pair by pair
+-- Slices that fill each of the regions of their index do so pair by pair.
 abbrev pub FillsByIndex : Type 0
 FillsByIndex =
     (regions : List Rect) (pictures : List (List Rect)) → length regions ≡ length pictures
     → ((k : ℕ) (d : Rect) (e : List Rect) → k < length regions → Fills (slice_index_or regions k d) (slice_index_or pictures k e))
     → AllZip Fills regions pictures
 
--- and so do pictures that stand in them
+-- So do pictures that stand in them.
 abbrev pub PlacedByIndex : Type 0
 PlacedByIndex =
     (columns rows : List ℕ) (regions : List Rect) (pictures : List Numbers) → length regions ≡ length pictures
@@ -81,27 +82,27 @@ PlacedByIndex =
     → IsPlaced columns rows (slice_index_or regions k d) (slice_index_or pictures k e))
     → AllZip (IsPlaced columns rows) regions pictures
 
--- the frame's slices cover it once where the regions do
+-- The frame's slices cover it once where the regions do.
 abbrev pub FrameSlicesCoverOnce : Type 0
 FrameSlicesCoverOnce =
     (regions : List Rect) (pictures : List (List Rect)) (w h : ℕ) → CoversOnce regions w h → AllZip Fills regions pictures
     → CoversOnce (frame_slices regions pictures) w h
 
--- the frame's slices stand in order where the regions do, and the slices of each picture
+-- The frame's slices stand in order where the regions do, and the slices of each picture.
 abbrev pub FrameSlicesStandInOrder : Type 0
 FrameSlicesStandInOrder =
     (regions : List Rect) (pictures : List (List Rect)) → AllPairs Precedes regions → AllZip Fills regions pictures
     → All (AllPairs Precedes) pictures
     → AllPairs Precedes (frame_slices regions pictures)
 
--- region by region the frame's slices are its slice list itself
+-- Region by region the frame's slices are its slice list itself.
 abbrev pub FrameSlicesAreInOrder : Type 0
 FrameSlicesAreInOrder =
     (regions : List Rect) (pictures : List (List Rect)) (w h : ℕ) → All (IsPart w h) regions → CoversOnce regions w h
     → AllZip Fills regions pictures
     → in_order (frame_slices regions pictures) regions ≡ frame_slices regions pictures
 
--- the frame's slices in a region are those of the picture there, moved to the region's corner
+-- The frame's slices in a region are those of the picture there, moved to the region's corner.
 abbrev pub FrameSlicesOfRegion : Type 0
 FrameSlicesOfRegion =
     (regions : List Rect) (pictures : List (List Rect)) (w h k : ℕ) (d : Rect) (e : List Rect) → All (IsPart w h) regions
@@ -109,7 +110,7 @@ FrameSlicesOfRegion =
     → slices_of_subpicture (frame_slices regions pictures) (slice_index_or regions k d)
     ≡ map (moved_to (slice_index_or regions k d)) (slice_index_or pictures k e)
 
--- counted from the corner they are the picture's own
+-- Counted from the corner they are the picture's own.
 abbrev pub FrameSlicesOfRegionCounted : Type 0
 FrameSlicesOfRegionCounted =
     (regions : List Rect) (pictures : List (List Rect)) (w h k : ℕ) (d : Rect) (e : List Rect) → All (IsPart w h) regions
@@ -117,20 +118,20 @@ FrameSlicesOfRegionCounted =
     → map (counted_from (slice_index_or regions k d)) (slices_of_subpicture (frame_slices regions pictures) (slice_index_or regions k d))
     ≡ slice_index_or pictures k e
 
--- each slice of the frame lies in a region
+-- Each slice of the frame lies in a region.
 abbrev pub FrameSlicesFit : Type 0
 FrameSlicesFit =
     (regions : List Rect) (pictures : List (List Rect)) → AllZip Fills regions pictures
     → All (λ r. Any (λ s. fits r s ≡ true) regions) (frame_slices regions pictures)
 
--- the slices of one region more come behind those so far
+-- The slices of one region more come after those so far.
 abbrev pub FrameSlicesGrow : Type 0
 FrameSlicesGrow =
     (regions : List Rect) (pictures : List (List Rect)) (k : ℕ) (d : Rect) (e : List Rect) → k < length regions → k < length pictures
     → frame_slices (take (k + 1) regions) (take (k + 1) pictures)
     ≡ frame_slices (take k regions) (take k pictures) ++ map (moved_to (slice_index_or regions k d)) (slice_index_or pictures k e)
 
--- a frame is a layout where the pictures stand in its regions, and these cover it and stand in order
+-- A frame is a layout where the pictures stand in its regions, and these cover it and stand in order.
 abbrev pub FrameIsLayout : Type 0
 FrameIsLayout =
     (columns rows : List ℕ) (regions : List Rect) (pictures : List Numbers)
@@ -138,7 +139,7 @@ FrameIsLayout =
     → AllZip (IsPlaced columns rows) regions pictures
     → IsLayout (frame_of columns rows regions pictures)
 
--- its region k is picture k
+-- Its region k is picture k.
 abbrev pub FrameHasPictures : Type 0
 FrameHasPictures =
     (columns rows : List ℕ) (regions : List Rect) (pictures : List Numbers) (k : ℕ) (d : Numbers) → Rises columns
@@ -146,7 +147,7 @@ FrameHasPictures =
     → k < length regions
     → region_of (frame_of columns rows regions pictures) k ≡ slice_index_or pictures k d
 
--- and it is a layout as one subpicture too, where it has a region
+-- It is a layout as one subpicture too, where it has a region.
 abbrev pub FrameAloneIsLayout : Type 0
 FrameAloneIsLayout =
     (columns rows : List ℕ) (regions : List Rect) (pictures : List Numbers) → Rises columns → Rises rows
@@ -154,7 +155,7 @@ FrameAloneIsLayout =
     → AllZip (IsPlaced columns rows) regions pictures
     → IsLayout (with_one_subpic (frame_of columns rows regions pictures))
 
--- its slices can be listed tile by tile where each picture's can, and the regions of one tile stand next to one another
+-- Its slices can be listed tile by tile where each picture's can, and the regions of one tile stand next to one another.
 abbrev pub FrameIsListable : Type 0
 FrameIsListable =
     (columns rows : List ℕ) (regions : List Rect) (pictures : List Numbers) → Rises rows

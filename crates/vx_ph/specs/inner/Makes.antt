@@ -6,7 +6,7 @@ use Rattle.vx_table.specs.Forms.{Form}
 use Rattle.vx_table.specs.Rewritten.{IsRewritten}
 use Rattle.vx_table.specs.Writing.{IsWritten}
 
--- the structure with these items of some fields, and these of the others, where there is one
+-- The structure with these items of some fields, and these of the others, where there is one.
 abbrev pub Makes : Form (List ℕ) → List ℕ → List Item → List Item → Result (Unit {0}) SpellError → List Item → Type 0
 Makes form fields stated kept result after =
     (items : List Item) → IsRewritten form fields stated kept items → IsWritten result (after ≡ items)

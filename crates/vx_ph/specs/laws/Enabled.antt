@@ -10,12 +10,13 @@ use Rattle.vx_ph.specs.Filter.{filter_of}
 use Rattle.vx_ph.specs.InForce.{in_force, structures}
 use Rattle.vx_ph.specs.Picture.{IsHeader}
 
--- where this field of the SPS is 0, that one of the header is 0
+-- Where this field of the SPS is 0, that one of the header is 0.
 abbrev pub IsOff : (enabling field : ℕ) → Type 0
 IsOff enabling field = (sps pps : List Item) (header : PictureHeader) → IsHeader (structures sps) (in_force sps pps) header
     → is_set (number sps enabling) ≡ false → number header.fields field ≡ 0
 
--- luma mapping with chroma scaling, scaling lists, and the scaling of chroma residuals, which is there only where there is chroma
+-- Luma mapping with chroma scaling, scaling lists, and the scaling of chroma residuals, which is there only where there is
+-- chroma.
 abbrev pub NoLmcs : Type 0
 NoLmcs = IsOff sps_fields.sps_lmcs_enabled_flag ph.ph_lmcs_enabled_flag
 
@@ -25,7 +26,7 @@ NoScaling = IsOff sps_fields.sps_explicit_scaling_list_enabled_flag ph.ph_explic
 abbrev pub NoChromaScaling : Type 0
 NoChromaScaling = IsOff sps_fields.sps_chroma_format_idc ph.ph_chroma_residual_scale_flag
 
--- the adaptive loop filter
+-- The adaptive loop filter.
 abbrev pub NoFilter : Type 0
 NoFilter = (sps pps : List Item) (header : PictureHeader) → IsHeader (structures sps) (in_force sps pps) header
     → is_set (number sps sps_fields.sps_alf_enabled_flag) ≡ false → filter_of header.fields ≡ []

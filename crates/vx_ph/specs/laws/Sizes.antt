@@ -10,7 +10,7 @@ use Rattle.vx_ph.specs.declared.header.PictureHeader.{PictureHeader}
 use Rattle.vx_ph.specs.InForce.{in_force, structures}
 use Rattle.vx_ph.specs.Picture.{IsPictureHeaderUnit}
 
--- structures of an SPS for one list: 64 at most, of 29 entries at most
+-- Structures of an SPS for one list: 64 at most, of 29 entries at most.
 pub record AreFew (structures : List Structure) : Type 0 where
   pub count : length structures ≤ 64
   pub each : (k : ℕ) (x : Structure) → slice_get structures k ≡ Some x → length x.entries ≤ 29
@@ -23,7 +23,7 @@ pub record IsBounded (table : RplTable) (s : List ℕ) : Type 0 where
   pub first : AreFew table.first
   pub second : AreFew table.second
 
--- no unit of a picture header has more bytes
+-- No unit of a picture header has more bytes.
 abbrev pub header_limit : ℕ
 header_limit = 131072
 

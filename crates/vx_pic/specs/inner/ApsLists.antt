@@ -4,6 +4,6 @@ use Rattle.std.specs.List.{AllByRecursion}
 use Rattle.vx_aps.specs.declared.aps.Aps.{Aps}
 use Rattle.vx_aps.specs.Aps.{IsValid}
 
--- each of them is valid
+-- Each of them is valid.
 abbrev pub AreValid : List (Option Aps) → Type 0
 AreValid sets = AllByRecursion (λ aps. IfSome aps IsValid) sets

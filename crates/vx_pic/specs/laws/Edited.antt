@@ -8,9 +8,9 @@ use Rattle.vx_pic.specs.Written.{Plan}
 use Rattle.vx_pic.specs.Resident.{planned_of, IsPlanned, AreAllPlanned}
 use Rattle.vx_pic.specs.Finished.{AreFinished}
 
--- A plan behind others in the place of a picture behind those before it: its kind is the picture's, its header tells the same of
--- counts, its SPS is that of the plan before, unless it starts a coded layer video sequence, and but for its place among the pictures
--- it is as a plan has to be.
+-- A plan after others in the place of a picture after those before it: its kind is the picture's, its header tells the same of
+-- counts, its SPS is that of the plan before, unless it starts a coded layer video sequence, and except for its place among the
+-- pictures it is as a plan must be.
 pub record IsEdit (R : Readers) (earlier : List Picture) (p : Picture) (done : List Plan) (q : Plan) : Type 0 where
   pub kind : p.kind ≡ q.kind
   pub alike : AlikeForCounts p.begun q.begun
@@ -23,7 +23,7 @@ AreEdits R (p ∷ earlier) (q ∷ done) = IsEdit R earlier p done q × AreEdits 
 AreEdits R [] (q ∷ done) = ⊥
 AreEdits R (p ∷ earlier) [] = ⊥
 
--- They are as plans have to be, so they are read again, and their pictures have the counts of those that they replace.
+-- They are as plans must be, so they are read again, and their pictures have the counts of those that they replace.
 abbrev pub EditsArePlanned : Type 0
 EditsArePlanned = (R : Readers) (ps : List Picture) (plans : List Plan) → AreFinished R ps → AreEdits R ps plans
     → AreAllPlanned R plans × AreAlike ps (planned_of plans)

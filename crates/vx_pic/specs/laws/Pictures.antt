@@ -13,38 +13,38 @@ use Rattle.vx_annexb.specs.Laws.{CanStand, written}
 
 -- ---- units
 
--- more units are read behind those before them, unless one of these is refused
+-- More units are read after those before them, unless one of these is refused.
 abbrev pub ReadingGoesOn : Type 0
 ReadingGoesOn = (R : Readers) (before : List Reading) (units more : List (List ℕ))
     → read_on R before (units ++ more)
     ≡ unless_refused (read_on R before units).refusal (read_on R before units).before (λ after. read_on R after more)
 
--- pictures that are done stay, however the units go on
+-- Pictures that are done stay, however the units go on.
 abbrev pub PicturesStay : Type 0
 PicturesStay = (R : Readers) (units more : List (List ℕ))
     → (later : List Picture) × (pictures_of R (units ++ more) ≡ later ++ pictures_of R units)
 
--- a plan that is written where a stream can go on is read again
+-- A plan that is written where a stream can go on is read again.
 abbrev pub PlansReadAgain : Type 0
 PlansReadAgain = (R : Readers) → PlanReadsAgain R
 
 -- ---- bytes
 
--- the bytes determine pictures and ending
+-- The bytes determine pictures and ending.
 abbrev pub PicturesAreUnique : Type 0
 PicturesAreUnique = (R : Readers) (b : List ℕ) (all : Bool) (ps qs : List Picture) (e f : Option Ending)
     → ArePictures R b all ps e → ArePictures R b all qs f → (ps ≡ qs) × (e ≡ f)
 
--- all bytes have them
+-- All bytes have them.
 abbrev pub PicturesExist : Type 0
 PicturesExist = (R : Readers) (b : List ℕ) (all : Bool) → (ps : List Picture) × (e : Option Ending) × ArePictures R b all ps e
 
--- pictures that are seen stay, however the bytes go on
+-- Pictures that are seen stay, however the bytes go on.
 abbrev pub SeenPicturesStay : Type 0
 SeenPicturesStay = (R : Readers) (b more : List ℕ) (all : Bool) (ps qs : List Picture) (e : Option Ending)
     → AreSeenPictures R b ps → ArePictures R (b ++ more) all qs e → (later : List Picture) × (qs ≡ later ++ ps)
 
--- units that are written one behind another, and can stand in a stream, have in it the pictures of the list of units
+-- Units that are written one after another, and can stand in a stream, have in it the pictures of the list of units.
 abbrev pub WrittenHasPictures : Type 0
 WrittenHasPictures = (R : Readers) (units : List (List ℕ)) → All CanStand units
     → ArePictures R (written units) true (pictures_of R units) (ending_by true None (read_on R [] units))
@@ -58,7 +58,7 @@ pub record IsLatestAt {A : Type 0} (gives : Reading → Option A) (before : List
   pub given : gives reading ≡ Some a
   pub later : (k : ℕ) (r : Reading) → k < n → slice_get before k ≡ Some r → gives r ≡ None
 
--- what is in force is given by the last reading that gives it, and by no other
+-- What is in force is given by the last reading that gives it, and by no other.
 abbrev pub IsByPlaces : {A : Type 0} → (Reading → Option A) → Type 0
 IsByPlaces {A} gives = (before : List Reading) (a : A)
     → (latest_given gives before ≡ Some a → (n : ℕ) × IsLatestAt gives before n a)
@@ -68,26 +68,26 @@ IsByPlaces {A} gives = (before : List Reading) (a : A)
 abbrev pub StoredByPlaces : Type 0
 StoredByPlaces = ((id : ℕ) → IsByPlaces (sps_in id)) × ((id : ℕ) → IsByPlaces (pps_in id)) × ((kind id : ℕ) → IsByPlaces (aps_in kind id))
 
--- the picture at this place can be prevTid0Pic, and no later one can
+-- The picture at this place can be prevTid0Pic, and no later one can.
 pub record IsPrevTid0At (earlier : List Picture) (n : ℕ) (p : Picture) : Type 0 where
   pub here : slice_get earlier n ≡ Some p
   pub can : is_tid0_picture p ≡ true
   pub later : (k : ℕ) (q : Picture) → k < n → slice_get earlier k ≡ Some q → is_tid0_picture q ≡ false
 
--- prevPicOrderCntLsb and prevPicOrderCntMsb are those of that picture, and 0 where there is none.
+-- PrevPicOrderCntLsb and prevPicOrderCntMsb are those of that picture, and 0 where there is none.
 abbrev pub PreviousByPlaces : Type 0
 PreviousByPlaces =
     ((earlier : List Picture) (n : ℕ) (p : Picture) → IsPrevTid0At earlier n p → previous earlier ≡ counts_of p)
     × ((earlier : List Picture) → ((k : ℕ) (q : Picture) → slice_get earlier k ≡ Some q → is_tid0_picture q ≡ false)
     → previous earlier ≡ no_counts)
 
--- no slice is among the last n, and what stands before these is one, where anything does
+-- No slice is among the last n, and what stands before these is one, where anything does.
 pub record IsSinceSlice (before : List Reading) (n : ℕ) : Type 0 where
   pub within : n ≤ length before
   pub later : (k : ℕ) (r : Reading) → k < n → slice_get before k ≡ Some r → is_slice r ≡ false
   pub slice : (r : Reading) → slice_get before n ≡ Some r → is_slice r ≡ true
 
--- the messages of a unit, and the further slice that it is
+-- The messages of a unit, and the further slice that it is.
 abbrev pub messages_in : Reading → List Message
 messages_in (messages_read messages) = messages
 messages_in _ = []
@@ -102,7 +102,7 @@ GatheredByPlaces = (before : List Reading)
     → ((n : ℕ) × IsSinceSlice before n)
     × ((n : ℕ) → IsSinceSlice before n → gathered before ≡ flat_map messages_in (reverse (take n before)))
 
--- a picture begins
+-- A picture begins.
 abbrev pub is_start : Reading → Bool
 is_start (header_read b) = true
 is_start (first_slice b k s) = true
@@ -117,7 +117,7 @@ pub record IsPictureAt (before : List Reading) (n : ℕ) (p : Picture) : Type 0 
   pub earlier : p.before ≡ drop (suc n) before
   pub slices : p.slices ≡ slice ∷ flat_map further_in (reverse (take n before))
 
--- The picture that was begun last, where a slice of it came, is that of the last first slice, behind which no picture began.
+-- The picture that was begun last, where a slice of it came, is that of the last first slice, after which no picture began.
 abbrev pub CurrentByPlaces : Type 0
 CurrentByPlaces = (before : List Reading) (p : Picture)
     → (current before ≡ going p → (n : ℕ) × IsPictureAt before n p)

@@ -74,56 +74,56 @@ pub record GiveSame (items others : List Item) : Type 0 where
   pub numbers : (n : ℕ) → IsTrue (has kept_pps_fields n) → number items n ≡ number others n
   pub active : (list : ℕ) → default_active items list ≡ default_active others list
 
--- So do sets with the same kept items, those among them that stand for absent fields.
+-- So do sets with the same kept items, those among them that represent absent fields.
 abbrev pub KeptTellsNumbers : Type 0
 KeptTellsNumbers =
     (items others : List Item) → ArePpsItems items → ArePpsItems others → kept_pps_items items ≡ kept_pps_items others → GiveSame items others
 
 -- ---- tiles
 
--- tiles as a layout takes them: at least one, and not more CTUs than a picture has
+-- Tiles as a layout takes them: at least one, and not more CTUs than a picture has.
 pub record AreTilesInLimits (g : Tiles) : Type 0 where
   pub grid : IsGrid g
   pub columns : Rises g.columns × (last g.columns ≤ 512)
   pub rows : Rises g.rows × (last g.rows ≤ 512)
 
--- those of a partitioned picture are
+-- Those of a partitioned picture are.
 abbrev pub TilesAreInLimits : Type 0
 TilesAreInLimits =
     (items : List Item) (end : Partition) → IsPps items end → is_partitioned items ≡ true → AreTilesInLimits end.tiles
 
 -- ---- what a layout is made of
 
--- bounds of so many CTUs, as a layout takes them: there are two at least, and not more CTUs than a picture has
+-- Bounds of so many CTUs, as a layout takes them: there are two at least, and not more CTUs than a picture has.
 pub record AreTileBounds (bounds : List ℕ) (total : ℕ) : Type 0 where
   pub several : 2 ≤ length bounds
   pub rises : Rises bounds
   pub all : last bounds ≡ total
   pub low : total ≤ 512
 
--- slices, as a layout takes them: there is one at least, and not more than 1,000, and each holds a CTU
+-- Slices, as a layout takes them: there is one at least, and not more than 1,000, and each holds a CTU.
 pub record AreSlices (slices : List Rect) : Type 0 where
   pub some : 1 ≤ length slices
   pub few : length slices ≤ 1000
   pub each : All HasCtu slices
 
--- a width or height that isn't 0, and no greater than 512 CTUs of the least size
+-- A width or height that isn't 0, and no greater than 512 CTUs of the least size.
 pub record IsWide (samples : ℕ) : Type 0 where
   pub some : 0 < samples
   pub most : samples ≤ 16384
 
--- the size of a CTU in luma samples (CtbSizeY), where the picture is partitioned
+-- The size of a CTU in luma samples (CtbSizeY), where the picture is partitioned.
 abbrev pub pps_ctb_size : List Item → ℕ
 pps_ctb_size items = 2 ^ (number items pps.pps_log2_ctu_size_minus5 + 5)
 
--- the CTUs across and down (PicWidthInCtbsY, PicHeightInCtbsY)
+-- The CTUs across and down (PicWidthInCtbsY, PicHeightInCtbsY).
 abbrev pub columns_in : List Item → ℕ
 columns_in items = div_ceil (number items pps.pps_pic_width_in_luma_samples) (pps_ctb_size items)
 
 abbrev pub rows_in : List Item → ℕ
 rows_in items = div_ceil (number items pps.pps_pic_height_in_luma_samples) (pps_ctb_size items)
 
--- pps_single_slice_per_subpic_flag is 1: each subpicture is a slice
+-- pps_single_slice_per_subpic_flag is 1: each subpicture is a slice.
 abbrev pub is_single : List Item → Bool
 is_single items = is_set (number items pps.pps_single_slice_per_subpic_flag)
 

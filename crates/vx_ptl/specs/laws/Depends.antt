@@ -10,31 +10,31 @@ use Rattle.vx_table.specs.declared.rows.Formula.TheVariants.{Plain}
 use Rattle.vx_table.specs.Parts.{Section, always, provided}
 use Rattle.vx_table.specs.Named.{ReadsOnly, SectionsReadOnly, CodedOnce}
 
--- profile, tier and level: the highest sublayer
+-- Profile, tier and level: the highest sublayer.
 abbrev pub PtlDepends : Type 0
 PtlDepends = ReadsOnly (sps_max_sublayers_minus1 ∷ []) PTL
 
--- DPB parameters: that, and whether each sublayer has an entry
+-- DPB parameters: that, and whether each sublayer has an entry.
 abbrev pub DpbDepends : Type 0
 DpbDepends = ReadsOnly (sps_max_sublayers_minus1 ∷ sps_sublayer_dpb_params_flag ∷ []) DPB
 
--- general timing: nothing
+-- General timing: nothing.
 abbrev pub TimingDepends : Type 0
 TimingDepends = ReadsOnly [] TIMING
 
--- sublayer timing: the highest sublayer, whether each has an entry, and four fields of general timing
+-- Sublayer timing: the highest sublayer, whether each has an entry, and four fields of general timing.
 abbrev pub SublayerTimingDepends : Type 0
 SublayerTimingDepends = ReadsOnly
     (sps_max_sublayers_minus1 ∷ sps_sublayer_cpb_params_present_flag ∷ general_nal_hrd_params_present_flag
     ∷ general_vcl_hrd_params_present_flag ∷ general_du_hrd_params_present_flag ∷ hrd_cpb_cnt_minus1 ∷ [])
     SUBLAYER_TIMING
 
--- the two where a parameter set says that they are there
+-- The two where a parameter set says that they are there.
 abbrev pub timing_if_present : List Section
 timing_if_present = always NO_TIMING ∷ provided (Plain (Latest sps_timing_hrd_params_present_flag)) TIMING
     ∷ provided (Plain (Latest sps_timing_hrd_params_present_flag)) SUBLAYER_TIMING ∷ []
 
--- these: that it says so, the highest sublayer, and whether each has an entry
+-- These: that it says so, the highest sublayer, and whether each has an entry.
 abbrev pub TimingIfPresentDepends : Type 0
 TimingIfPresentDepends = SectionsReadOnly
     (sps_timing_hrd_params_present_flag ∷ sps_max_sublayers_minus1 ∷ sps_sublayer_cpb_params_present_flag ∷ []) timing_if_present

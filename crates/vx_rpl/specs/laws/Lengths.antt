@@ -13,7 +13,7 @@ use Rattle.vx_rpl.specs.HeaderLists.{behind_next}
 use Rattle.vx_rpl.specs.Lists.{is_long}
 use Rattle.vx_rpl.specs.Resolved.{structure_of}
 
--- the entries that a structure's items come to
+-- The entries that a structure's items come to.
 abbrev pub entries_spelled : Bool → List Item → List RefEntry
 entries_spelled weighted items = (structure_of weighted (behind_next num_ref_entries items)).entries
 

@@ -23,7 +23,7 @@ pub record AreScopes (n : SliceNumbers) (sets slice : List ℕ) : Type 0 where
   pub few : length n.ids.now ≤ 1000
   pub one_each : length n.ids.now ≡ length n.layout.now.subpics
 
--- what is used of LMCS and scaling lists, where a slice's scope has them on
+-- What is used of LMCS and scaling lists, where a slice's scope has them on.
 abbrev pub uses_at : List ℕ → (uses_lmcs uses_scaling : Bool) → List Item
 uses_at slice uses_lmcs uses_scaling =
     where_so (is_set (slice_index slice ph_lmcs_enabled_flag)) (item sh_lmcs_used_flag (one_if uses_lmcs) ∷ [])

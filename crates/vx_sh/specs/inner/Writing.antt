@@ -8,14 +8,14 @@ use Rattle.vx_table.specs.Values.{bits_along}
 use Rattle.vx_sh.specs.Whole.{At, slice_form}
 use Rattle.vx_sh.specs.Value.{IsSliceOf, values_of}
 
--- the values are written, exactly their items are taken, and this is the scope at their end
+-- The values are written, exactly their items are taken, and this is the scope at their end.
 pub record PartIsWritten (form : Form (List ℕ)) (values : List ℤ) (end : List ℕ) (more : List Item) (old : List Bool) (scope : List ℕ)
     (new : List Bool) (left : List Item) : Type 0 where
   pub bits : new ≡ old ++ bits_along form (length old) values
   pub items : left ≡ more
   pub ends : scope ≡ end
 
--- a writer that is given what it asks for finds a value each time
+-- A writer that is given what it asks for finds a value each time.
 abbrev pub HasFailed : SpellError → Type 0
 HasFailed errors.Memory = Unit {0}
 HasFailed errors.NoValue = ⊥

@@ -23,7 +23,7 @@ SlicesReadAgain = (table : RplTable) (points : ℕ → ℕ) (s t : List ℕ) (ol
     → Agree all_given s t → Reads (rest_form table points s) old items result new after
     → Reads (rest_form table points t) old items result new after
 
--- the kept fields with the names that their rows use, and what they depend on
+-- The kept fields with the names that their rows use, and what they depend on.
 abbrev pub kept : List ℕ
 kept = kept_given ++ kept_with_names
 

@@ -10,7 +10,7 @@ use Rattle.vx_ph.specs.Filter.{filter_of}
 use Rattle.vx_sh.specs.InForce.{at_sets}
 use Rattle.vx_sh.specs.Value.{AreFields}
 
--- the adaptive loop filter
+-- The adaptive loop filter.
 abbrev pub NoSliceFilter : Type 0
 NoSliceFilter = (nal_type : ℕ) (sps pps : List Item) (header : PictureHeader) (ids : List ℕ) (layout : Numbers) (fields : List Item) (inside : List ℤ)
     → AreFields (at_sets nal_type sps pps header ids layout) fields inside → is_set (number sps sps_alf_enabled_flag) ≡ false

@@ -13,7 +13,7 @@ use Rattle.vx_sh.specs.InForce.{in_force_at}
 use Rattle.vx_sh.specs.Value.{IsSliceHeaderSpelling}
 use Rattle.vx_sh.specs.Whole.{At, points_at, num_slices_in_subpic}
 
--- no slice has more entry points
+-- No slice has more entry points.
 abbrev pub points_limit : ℕ
 points_limit = 65536
 
@@ -31,7 +31,7 @@ pub record IsBounded (n : At) : Type 0 where
   pub points : (k m : ℕ) → points_at n.layout (is_set (slice_index n.slice sps_entry_point_offsets_present_flag))
       (is_set (slice_index n.slice sps_entropy_coding_sync_enabled_flag)) k m ≤ points_limit
 
--- no slice header has more bytes
+-- No slice header has more bytes.
 abbrev pub header_limit : ℕ
 header_limit = 524288
 

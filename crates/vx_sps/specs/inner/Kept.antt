@@ -14,11 +14,11 @@ use Rattle.vx_sps.specs.Set.{AreSpsItems, ctu_columns_of, ctu_rows_of, is_weight
 use Rattle.vx_sps.specs.Subpictures.{subpics_of, rect_of, is_treated, is_filtered, sps_subpic_id_of}
 use Rattle.vx_table.specs.Loaded.{numbers_of}
 
--- no numbers of subpictures
+-- No numbers of subpictures.
 abbrev pub no_numbers : Numbers
 no_numbers = record { x = []; y = []; w = []; h = []; treated = []; filtered = []; ids = [] }
 
--- the numbers that the items have of subpictures
+-- The numbers that the items have of subpictures.
 abbrev pub subpicture_numbers : List Item → Numbers
 subpicture_numbers items = record {
   x = numbers_of items sps.sps_subpic_ctu_top_left_x;
@@ -37,7 +37,7 @@ pub record IsTold (items : List Item) (across down : ℕ) (same : Bool) (noted :
   pub same_size : same ≡ is_set (number items sps.sps_subpic_same_size_flag)
   pub numbers : noted ≡ subpicture_numbers items
 
--- what is kept of subpicture i
+-- What is kept of subpicture i.
 abbrev pub subpicture_of : List Item → ℕ → Subpicture
 subpicture_of items i = record {
   rect = rect_of items i;

@@ -7,7 +7,7 @@ use Rattle.vx_table.specs.Writing.{IsWritten}
 use Rattle.vx_sps.specs.Depends.{taken_sps_fields}
 use Rattle.vx_sps.specs.Structure.{sps_form}
 
--- the set with these items of the fields that are taken over, and those of the others, where there is one
+-- The set with these items of the fields that are copied, and those of the others, where there is one.
 abbrev pub MakesSet : List Item → List Item → Result (Unit {0}) SpellError → List Item → Type 0
 MakesSet taken others result after = (items : List Item) → IsRewritten sps_form taken_sps_fields taken others items
     → IsWritten result (after ≡ items)

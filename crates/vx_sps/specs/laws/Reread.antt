@@ -17,19 +17,19 @@ use Rattle.vx_sps.specs.Reshaped.{IsShape, IsReshapedSps, id_bits}
 
 -- ---- the subpictures of a plan
 
--- how many there are
+-- How many there are.
 abbrev pub count_in : SubpicPlan → ℕ
 count_in Absent = 1
 count_in (One id_len id) = 1
 count_in (Many rects) = length rects
 
--- rectangle i, in a picture of so many columns and rows of CTUs
+-- Rectangle i, in a picture of so many columns and rows of CTUs.
 abbrev pub rect_in : ℕ → ℕ → SubpicPlan → ℕ → Rect
 rect_in columns rows Absent i = whole_picture columns rows
 rect_in columns rows (One id_len id) i = whole_picture columns rows
 rect_in columns rows (Many rects) i = slice_index_or rects i no_rect
 
--- id i, where no PPS says another
+-- Id i, where no PPS says another.
 abbrev pub id_in_plan : SubpicPlan → ℕ → ℕ
 id_in_plan Absent i = i
 id_in_plan (One id_len None) i = i
