@@ -56,7 +56,7 @@ IsAnswer rbsp (Ok (Some aps)) = IsAps rbsp aps
 IsAnswer rbsp (Ok None) = IsReserved rbsp
 IsAnswer rbsp (Err refusal) = IsRefusedAps rbsp refusal
 
--- What a reader answers, unless memory runs out.
+-- The answer of a reader, unless memory runs out.
 abbrev pub AnswersAps : List ℕ → Result (Option Aps) ReadError → Type 0
 AnswersAps rbsp (Ok aps) = IsAnswer rbsp (Ok aps)
 AnswersAps rbsp (Err Memory) = Unit {0}

@@ -1,4 +1,4 @@
--- The fields of an adaptation parameter set that bytes spell (H.266 7.3.2.6), up to the first that is refused.
+-- The fields of an adaptation parameter set in bytes (H.266 7.3.2.6), up to the first that is refused.
 use Rattle.std.specs.Prelude.{◌≡◌, ℕ, pos, List, [], ◌∷◌, length, Option, Some, None, Result, Ok, Err}
 use Rattle.vx_bits.specs.declared.list.Item.{Item}
 use Rattle.vx_bits.specs.declared.refusal.Refusal.{Refusal}
@@ -14,11 +14,11 @@ type_item kind = record { field = aps_params_type; value = pos kind }
 abbrev pub id_item : ℕ → Item
 id_item id = record { field = aps_adaptation_parameter_set_id; value = pos id }
 
--- A type alone, whose id is refused (our own).
+-- Only a type, whose id is refused (our own).
 abbrev pub with_type : ℕ → ApsFields
 with_type kind = record { items = type_item kind ∷ []; body = None }
 
--- A type and an id, and a body of so many bytes, unless it is refused (our own).
+-- A type and an id, and a body with this number of bytes, unless it is refused (our own).
 abbrev pub with_id : ℕ → ℕ → Option ℕ → ApsFields
 with_id kind id body = record { items = type_item kind ∷ id_item id ∷ []; body = body }
 

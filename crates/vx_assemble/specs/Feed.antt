@@ -1,6 +1,6 @@
--- A feed, as its callers see it: by these words, and by the relation `HasFed` between it and the bytes that it took of a source, with
--- the places of the units that it took and what these were read as, the latest first. That relation begins with none of them; `Gives`
--- and `ReadsOn` say what it is worth. Our own.
+-- How callers see a feed: a few observable values, and the relation `HasFed` between it and the bytes that it took from a source,
+-- with the places of the units that it took and what these were read as, the latest first. The relation begins with none of them;
+-- `Gives` and `ReadsOn` say what it implies. Our own. All that read streams rely on it.
 use Rattle.std.specs.Prelude.{◌≡◌, ℕ, ◌+◌, ◌<◌, ◌≤◌, true, false, List, [], ◌∷◌, ◌++◌, length, take, Option, Some, None, Result, Ok, Err}
 use Rattle.std.specs.Io.KnownBytes.{Consumes, Keeps, IsAtEnd}
 use Rattle.vx_bits.specs.Limits.{unit_limit}
@@ -42,7 +42,7 @@ pub record IsOpen (f : Feeding) : Type 0 where
   pub reader : reader.IsOpen f.reader
   pub going : f.first ≡ None
 
--- Where it found the end of its source, that has no bytes left.
+-- If it found the end of its source, then that has no bytes left.
 abbrev pub EndsAtEnd : Feeding → Option (List ℕ) → Type 0
 EndsAtEnd f left = f.reader.closed ≡ Some closed.End → IsAtEnd left
 
@@ -65,7 +65,7 @@ pub record HasFed (R : Readers) (f : Feeding) (g : List ℕ) (places : List Unit
   pub count : f.units ≡ length places
   pub going : f.first ≡ None
 
--- How many of the bytes that were read stand after the last unit taken; a unit that is taken leaves fewer.
+-- How many of the bytes that were read come after the last unit taken; taking a unit leaves fewer.
 abbrev pub left_to_take : Feeding → ℕ
 left_to_take f = ahead f.reader.splitter
 
@@ -142,7 +142,7 @@ Gives R g places before f (Err (faults.Stopped first)) = ⊥
 
 -- ---- one unit that is looked at before it is taken
 
--- What was seen where the feed is refused: the unit that is refused, or nothing.
+-- What was seen if the feed is refused: the unit that is refused, or nothing.
 pub data SeesRefused {V : Type 0} (sees : List Reading → List ℕ → V) (nothing : V) (R : Readers) (f : reader.Reading) (g : List ℕ)
     (places : List UnitPlace) (before : List Reading) (r : Refusal) (seen : V) : Type 0 where
   at_bytes : reader.IsRefusedBy g places f r → seen ≡ nothing → SeesRefused sees nothing R f g places before r seen
@@ -150,7 +150,7 @@ pub data SeesRefused {V : Type 0} (sees : List Reading → List ℕ → V) (noth
       → SeesRefused sees nothing R f g places before r seen
   sees_at_end : EndIsRefused f g places before r → seen ≡ nothing → SeesRefused sees nothing R f g places before r seen
 
--- The next unit in what was read, as `Gives` has it, and what was seen: that unit after those before it, or nothing.
+-- The next unit in what was read, as in `Gives`, and what was seen: that unit after those before it, or nothing.
 abbrev pub GivesSeen : {V : Type 0} → (List Reading → List ℕ → V) → V → Readers → List ℕ → List UnitPlace → List Reading → Feeding
     → Result (Option Taken) FeedFault → V → Type 0
 GivesSeen sees nothing R g places before f (Ok (Some (Nal header place bytes what))) seen =
@@ -161,7 +161,7 @@ GivesSeen sees nothing R g places before f (Ok None) seen = seen ≡ nothing
 GivesSeen sees nothing R g places before f (Err (faults.Refused r)) seen = SeesRefused sees nothing R f.reader g places before r seen
 GivesSeen sees nothing R g places before f (Err fault) seen = Unit {0}
 
--- What was told of the unit that was taken is what the assembler told last.
+-- The result for the unit that was taken is the assembler's last result.
 abbrev pub IsToldBy : Held → Option Taken → Type 0
 IsToldBy h (Some (Nal header place bytes what)) = told h ≡ what
 IsToldBy h _ = Unit {0}
@@ -220,8 +220,8 @@ pub record IsStopped (R : Readers) (f : Feeding) (g : List ℕ) (places : List U
   pub more : List UnitPlace
   pub read : reader.HasRead f.reader g ((places ++ later) ++ more)
 
--- After the units at these places, read as these, more were taken, which complete no picture: they stand in a piece of the
--- source, of which a further one may have been read after it.
+-- After the units at these places, read as these, more were taken, which complete no picture: they are in a piece of the source, of
+-- which a further one may have been read after it.
 pub record CompletesNone (R : Readers) (g : List ℕ) (places : List UnitPlace) (before : List Reading) (f : Feeding)
     (left left' : Option (List ℕ)) : Type 0 where
   pub piece : List ℕ

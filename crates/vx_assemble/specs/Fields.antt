@@ -1,5 +1,5 @@
--- The fields that a unit spells after those before it, in the order of the bits: all, or those before the first that is
--- refused. The structure is read wherever it stands: the rules on the order of units don't take its fields away. Our own.
+-- The fields of a unit after those before it, in the order of the bits: all, or those before the first that is refused. The
+-- structure is read wherever it comes: the rules on the order of units don't remove its fields. Our own.
 use Rattle.std.specs.Prelude.{ℕ, ◌==◌, not, pos, Bool, true, false, cond, List, ◌∷◌, Option, Some, None, Result, Ok, Err}
 use Rattle.vx_bits.specs.declared.list.Item.{Item}
 use Rattle.vx_bits.specs.declared.refusal.Refusal.{Refusal}
@@ -45,7 +45,7 @@ abbrev pub items_of_slice : (nal_type : ℕ) (b : Begun) (u : List ℕ) (answer 
 items_of_slice nal_type b u (Ok header) slice = items_along (slice_form (at_slice_of nal_type b)) (values_of slice.begins.fields)
 items_of_slice nal_type b u (Err r) refused = items_along (slice_form (at_slice_of nal_type b)) refused.values
 
--- sh_picture_header_in_slice_header_flag, where the picture header is inside.
+-- sh_picture_header_in_slice_header_flag, if the picture header is inside.
 abbrev pub inside_item : Item
 inside_item = record { field = sh_picture_header_in_slice_header_flag; value = pos 1 }
 
@@ -75,7 +75,7 @@ module _ (R : Readers) (h : AreOfH266 R) where
   abbrev pub id_items : Bool → List ℕ → List Item
   id_items inside rbsp = items_to_id inside rbsp (R.referred_pps inside rbsp) (h.referred_pps inside rbsp)
 
-  -- Of one under those that it refers to; where one of them isn't stored, these items up to the id.
+  -- For a header under those to which it refers; if one of them isn't stored, these items up to the id.
   abbrev pub under_sps : Bool → List ℕ → List Item → List Item → Option (List Item) → List Item
   under_sps inside rbsp to_id pps None = to_id
   under_sps inside rbsp to_id pps (Some sps) = header_items inside rbsp sps pps
@@ -100,7 +100,7 @@ module _ (R : Readers) (h : AreOfH266 R) where
   alone_items before u (Ok b) = slice_items (nal_unit_type u) b u
   alone_items before u (Err r) = inside_item ∷ picture_header_items true (rbsp_of u) before
 
-  -- Of one whose picture header came before it; none without such a picture.
+  -- For a slice whose picture header was taken before it; none without such a picture.
   abbrev pub following_fields : Current → List ℕ → StructureFields
   following_fields nothing u = no_fields
   following_fields (headed b) u = fields_of structures.SliceHeader (slice_items (nal_unit_type u) b u)

@@ -1,5 +1,5 @@
--- An assembler, as its callers see it: by these words, and by the relation `Stands` between it and what the units that it took were
--- read as. That relation begins with no units; `Takes` says what it is worth.
+-- How callers see an assembler: a few observable values, and the relation `Stands` between it and what the units that it took were
+-- read as. The relation begins with no units; `Takes` says what it implies. All that read streams rely on it.
 use Rattle.std.specs.Prelude.{◌≡◌, ℕ, ◌≤◌, length, map, List, [], ◌∷◌, Option, Some, None, is_some, Result, Ok, Err}
 use Rattle.std.specs.List.{count_by, range_with_len}
 use Rattle.vx_bits.specs.declared.list.Item.{Item}
@@ -22,7 +22,7 @@ use Rattle.vx_assemble.specs.inner.Held.{IsHeld}
 use Rattle.vx_assemble.specs.inner.Lent.{parts_in}
 pub use Rattle.vx_assemble.specs.inner.Held.{Held, aps_items}
 
--- What was told of the last unit that was handed in; nothing of one that wasn't taken.
+-- The result for the last unit that was handed in; `Nothing` for one that wasn't taken.
 abbrev pub told : Held → Accepted
 told h = h.told
 
@@ -44,7 +44,7 @@ first_of faults.Memory = firsts.Memory
 first_of (faults.Refused r) = firsts.Refused r
 first_of (faults.Stopped f) = f
 
--- What is told of the latest unit.
+-- The result for the latest unit.
 abbrev pub last_told : List Reading → Accepted
 last_told [] = accepted.Nothing
 last_told (r ∷ before) = told_of r before
@@ -106,8 +106,8 @@ pub record AreFewBodies (sets : List (Option Aps)) : Type 0 where
   pub lmcs : count_of LMCS sets ≤ 4
   pub scaling : count_of SCALING sets ≤ 8
 
--- It keeps a picture of at most 2^25 bytes, messages of at most 65,536 bytes for it and for the next one, and at most so many sets: those
--- that are stored, and the bodies that were stored at the picture's first slice.
+-- It holds a picture of at most 2^25 bytes, messages of at most 65,536 bytes for it and for the next one, and a bounded number of
+-- sets: those that are stored, and the bodies that were stored at the picture's first slice.
 pub record IsBounded (h : Held) : Type 0 where
   pub bytes : length h.state.picture.bytes ≤ picture_limit
   pub messages : spelled_length h.state.picture.messages ≤ message_limit

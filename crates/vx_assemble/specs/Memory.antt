@@ -1,6 +1,6 @@
--- A feed of bytes in memory, as its callers see it: as a feed that was given all bytes that may be looked at; and by the relation
--- `HasSeen` between it, the bytes, and the pictures that it came to, the latest first. That relation begins with none of these; `Sees`
--- says what it is worth.
+-- How callers see a feed of bytes in memory: as a feed that was given all bytes within the limit; and by the relation `HasSeen`
+-- between it, the bytes, and the pictures that it reached, the latest first. The relation begins with none of these; `Sees` says
+-- what it implies.
 use Rattle.std.specs.Prelude.{◌≡◌, ℕ, ◌^◌, nat_le, cond, List, ◌∷◌, ◌++◌, length, Option, Some, None, Result, Ok, Err}
 use Rattle.vx_annexb.specs.ByteStream.{source_limit, UnitPlace}
 use Rattle.vx_annexb.specs.Held.{Held as Splitting, is_all}
@@ -18,15 +18,15 @@ use Rattle.vx_assemble.specs.declared.feed.Step.TheVariants.{Picture as ToPictur
 use Rattle.vx_assemble.specs.Held.{lent_by}
 use Rattle.vx_assemble.specs.Feed.{Feeding, seen_of, HasFed}
 
--- Why no more is read of a source that gave so many bytes: they are all there are, or more than may be looked at.
+-- Why no more is read of a source that gave this number of bytes: they are all there are, or more than the limit.
 abbrev pub closed_at : ℕ → Closed
 closed_at n = cond (nat_le n (2 ^ 40)) closed.End closed.TooLong
 
--- Its source, of which so many bytes were given at once.
+-- Its source, of which this number of bytes was given at once.
 abbrev pub given : Splitting → ℕ → reader.Reading
 given h n = record { splitter = h; taken = n; closed = Some (closed_at n) }
 
--- These are pictures of the bytes, and those that it came to.
+-- These are pictures of the bytes, and those that it reached.
 pub record HasSeen (R : Readers) (f : Feeding) (bytes : List ℕ) (ps : List Picture) : Type 0 where
   pub front : List ℕ
   pub places : List UnitPlace

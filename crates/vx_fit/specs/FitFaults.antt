@@ -1,5 +1,5 @@
--- Why regions don't fit together into a frame, and which region is named. A fault is looked for only where none of those
--- before it is there: the frame's size, the regions' geometry by three causes, their order. Our own.
+-- The faults for which regions don't fit together into a frame, and the region that is named. A fault counts only if none before
+-- it is present: the frame's size, the regions' geometry by three causes, their order. Our own.
 use Rattle.std.specs.Prelude.{◌≡◌, ℕ, ◌<◌, ◌⊎◌, List, All, length}
 use Rattle.std.specs.List.{AllPairs, slice_index_or}
 use Rattle.vx_fit.specs.declared.placed.FitFault.{FitFault}
@@ -9,7 +9,7 @@ use Rattle.vx_layout.specs.Rects.{Precedes}
 use Rattle.vx_fit.specs.Lowest.{IsLowest}
 use Rattle.vx_fit.specs.Placing.{IsCovered, IsFilled, IsOnGrid, IsTooLarge, Overlap, frame_height, frame_width, in_ctus}
 
--- No region: what stands past the end of a list.
+-- No region: the value past the end of a list.
 abbrev pub nowhere : Placed
 nowhere = record { x = 0; y = 0; w = 0; h = 0 }
 

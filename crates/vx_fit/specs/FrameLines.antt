@@ -13,7 +13,7 @@ use Rattle.vx_fit.specs.Lowest.{IsLowest}
 
 -- ---- lines and regions (our own)
 
--- No picture: what stands past the end of a list.
+-- No picture: the value past the end of a list.
 abbrev pub no_numbers : Numbers
 no_numbers = record { columns = []; rows = []; slices = []; subpics = [] }
 
@@ -31,11 +31,11 @@ OfSome corners parts P = (k : ℕ) × (k < length corners) × P (corner_at corne
 abbrev pub OfEachRegion : List Rect → List Numbers → (Rect → Numbers → Type 0) → Type 0
 OfEachRegion corners parts P = (k : ℕ) → k < length corners → P (corner_at corners k) (part_at parts k)
 
--- n is a bound of a picture that stands at `from`.
+-- n is a bound of a picture at `from`.
 abbrev pub HasBound : ℕ → List ℕ → ℕ → Type 0
 HasBound from own n = (c : ℕ) × Contains own c × (from + c ≡ n)
 
--- n stands strictly between the two borders of what begins at `from`.
+-- n is strictly between the two borders of what begins at `from`.
 abbrev pub PassesInside : ℕ → ℕ → ℕ → Type 0
 PassesInside from size n = (from < n) × (n < from + size)
 
@@ -62,8 +62,8 @@ IsBorder s n = (s.y ≡ n) ⊎ (s.y + s.h ≡ n)
 abbrev pub HasOneTile : Numbers → Type 0
 HasOneTile p = (length p.columns ≡ 2) × (length p.rows ≡ 2)
 
--- A full line is left out where it passes through a region that it is no inner line of, is an inner line of none, and each
--- region that it bounds has one tile: those above and below it are then rows of one tile of the frame.
+-- A full line is left out if it passes through a region and is no inner line of it, is an inner line of none, and each region
+-- that it bounds has one tile. Those above and below it are then rows of one tile of the frame.
 pub record IsDropped (corners : List Rect) (parts : List Numbers) (n : ℕ) : Type 0 where
   pub full : IsFull corners parts n
   pub crosses : OfSome corners parts (λ s p. Crosses s p n)
@@ -79,27 +79,27 @@ pub record AreBounds (IsLine : ℕ → Type 0) (bounds : List ℕ) : Type 0 wher
   pub rises : Rises bounds
   pub each : (n : ℕ) → Contains bounds n ↔ IsLine n
 
--- r stands right upon s, with the same columns.
+-- r is directly above s, with the same columns.
 abbrev pub StandsOn : Rect → Rect → Type 0
 StandsOn r s = SameSides r s × (r.y + r.h ≡ s.y)
 
--- Where the upper border of region k is left out, the region before it in the list stands upon it.
+-- If the upper border of region k is left out, then the region before it in the list is directly above it.
 abbrev pub FollowsAcrossDropped : List Rect → List Numbers → ℕ → Type 0
 FollowsAcrossDropped corners parts k =
     IsDropped corners parts (corner_at corners k).y → (j : ℕ) × (j + 1 ≡ k) × StandsOn (corner_at corners j) (corner_at corners k)
 
--- Strictly inside what begins at `from` the lines are the bounds of a picture that stands there.
+-- Strictly inside what begins at `from`, the lines are the bounds of the picture there.
 abbrev pub LinesAreOwn : (ℕ → Type 0) → ℕ → ℕ → List ℕ → Type 0
 LinesAreOwn IsLine from size own = (n : ℕ) → PassesInside from size n → IsLine n ↔ HasBound from own n
 
--- The lines strictly between the borders of region k are its own inner tile lines, and it follows the region above it where the
--- line between the two is left out.
+-- The lines strictly between the borders of region k are its own inner tile lines, and it follows the region above it if the line
+-- between the two is left out.
 pub record KeepsLines (corners : List Rect) (parts : List Numbers) (k : ℕ) : Type 0 where
   pub columns : LinesAreOwn (IsVertical corners parts) (corner_at corners k).x (corner_at corners k).w (part_at parts k).columns
   pub rows : LinesAreOwn (IsHorizontal corners parts) (corner_at corners k).y (corner_at corners k).h (part_at parts k).rows
   pub above : FollowsAcrossDropped corners parts k
 
--- Columns and rows that are exactly the frame's lines, where each region keeps its own.
+-- Columns and rows that are exactly the frame's lines, if each region keeps its own.
 pub record HaveLines (columns rows : List ℕ) (corners : List Rect) (parts : List Numbers) : Type 0 where
   pub vertical : AreBounds (IsVertical corners parts) columns
   pub horizontal : AreBounds (IsHorizontal corners parts) rows

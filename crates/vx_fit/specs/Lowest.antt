@@ -7,7 +7,7 @@ pub record IsLowest (count : ℕ) (Breaks : ℕ → Type 0) (k : ℕ) : Type 0 w
   pub breaks : Breaks k
   pub lower : (j : ℕ) → j < k → ¬ Breaks j
 
--- That index, or none where none breaks it.
+-- That index, or none if none breaks it.
 abbrev pub IsLowestAnswer : ℕ → (ℕ → Type 0) → Option ℕ → Type 0
 IsLowestAnswer count Breaks None = (k : ℕ) → k < count → ¬ Breaks k
 IsLowestAnswer count Breaks (Some k) = IsLowest count Breaks k

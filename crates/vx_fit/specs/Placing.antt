@@ -1,5 +1,5 @@
--- Regions of a frame in luma samples, and when they fit together into it. Each becomes a subpicture of the frame
--- (H.266 6.3.1), so its corner stands on the grid of CTUs (7.4.3.4).
+-- Regions of a frame in luma samples, and the conditions under which they fit together. Each becomes a subpicture of the frame
+-- (H.266 6.3.1), so its corner is on the grid of CTUs (7.4.3.4).
 use Rattle.std.specs.Prelude.{◌≡◌, ℕ, ◌+◌, ◌/◌, ◌%◌, ◌<◌, ◌≤◌, ◌⊎◌, Bool, true, ◌&&◌, nat_le, nat_lt, max, List, [], ◌∷◌, All, Any, map}
 use Rattle.std.specs.Int.{div_ceil}
 use Rattle.std.specs.List.{AllPairs}
@@ -11,7 +11,7 @@ use Rattle.vx_layout.specs.Rects.{Precedes}
 unfoldable pub covers : Placed → ℕ → ℕ → Bool
 covers p x y = (nat_le p.x x && nat_lt x (p.x + p.w)) && (nat_le p.y y && nat_lt y (p.y + p.h))
 
--- The greatest number that f gives of the regions, and 0 where there are none (our own).
+-- The greatest number that f gives for the regions, and 0 if there are none (our own).
 abbrev pub greatest_by : (Placed → ℕ) → List Placed → ℕ
 greatest_by f [] = 0
 greatest_by f (p ∷ ps) = max (f p) (greatest_by f ps)
@@ -30,7 +30,7 @@ greatest_size = 16384
 abbrev pub IsTooLarge : List Placed → Type 0
 IsTooLarge placed = (greatest_size < frame_width placed) ⊎ (greatest_size < frame_height placed)
 
--- The corner stands on the grid of CTUs of `ctb` times `ctb` samples (sps_subpic_ctu_top_left_x and _y, 7.4.3.4).
+-- The corner is on the grid of CTUs of `ctb` times `ctb` samples (sps_subpic_ctu_top_left_x and _y, 7.4.3.4).
 abbrev pub IsOnGrid : ℕ → Placed → Type 0
 IsOnGrid ctb p = (p.x % ctb ≡ 0) × (p.y % ctb ≡ 0)
 
@@ -50,8 +50,8 @@ IsFilled placed = (x y : ℕ) → x < frame_width placed → y < frame_height pl
 abbrev pub in_ctus : ℕ → Placed → Rect
 in_ctus ctb p = record { x = p.x / ctb; y = p.y / ctb; w = div_ceil p.w ctb; h = div_ceil p.h ctb }
 
--- The regions make up a frame that isn't too large: they stand on the grid, don't overlap and fill it, and no CTU of one has
--- its left or upper neighbour in a later one.
+-- The regions make up a frame that isn't too large: they are on the grid, don't overlap and fill it, and no CTU of one has its
+-- left or upper neighbour in a later one.
 pub record FitTogether (placed : List Placed) (ctb : ℕ) : Type 0 where
   pub small : ¬ IsTooLarge placed
   pub grid : All (IsOnGrid ctb) placed

@@ -11,17 +11,17 @@ abbrev pub Rises : List ℕ → Type 0
 Rises [] = Unit {0}
 Rises (a ∷ bs) = (a ≡ 0) × RisesAbove a bs
 
--- The last number, and a where there is none (our own).
+-- The last number, or a if there is none (our own).
 abbrev pub last_after : ℕ → List ℕ → ℕ
 last_after a [] = a
 last_after a (b ∷ bs) = last_after b bs
 
--- The last number, and 0 where there is none (our own).
+-- The last number, or 0 if there is none (our own).
 abbrev pub last : List ℕ → ℕ
 last ns = last_after 0 ns
 
--- The sizes after the explicit ones, where `left` CTUs are left: the last explicit size as often as it fits, and then the rest
--- where one is left (ColWidthVal and RowHeightVal, from uniformTileColWidth and uniformTileRowHeight on, 6.5.1).
+-- The sizes after the explicit ones, if `left` CTUs are left: the last explicit size as often as it fits, and then a rest if
+-- there is one (ColWidthVal and RowHeightVal, from uniformTileColWidth and uniformTileRowHeight on, 6.5.1).
 abbrev pub repeated_sizes : ℕ → ℕ → List ℕ
 repeated_sizes size left = replicate (left / size) size ++ cond (left % size == 0) [] (left % size ∷ [])
 

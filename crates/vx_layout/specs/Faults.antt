@@ -1,4 +1,4 @@
--- When tiles, slices and subpictures make up a picture, and which fault they have where they don't (H.266 6.3.1, 7.4.3.4;
+-- The conditions under which tiles, slices and subpictures make up a picture, and the fault if they don't (H.266 6.3.1, 7.4.3.4;
 -- the order of slices 7.4.8, sh_slice_address).
 use Rattle.std.specs.Prelude.{◌≡◌, ℕ, ◌+◌, ◌<◌, ◌≤◌, ◌⊎◌, true, List, All, Any, Contains, length}
 use Rattle.std.specs.List.{AllPairs}
@@ -37,7 +37,7 @@ pub record SubpicsCover (n : Numbers) : Type 0 where
   pub parts : All (IsPart (width n) (height n)) n.subpics
   pub once : CoversOnce n.subpics (width n) (height n)
 
--- No bound stands strictly between a and b (our own).
+-- No bound is strictly between a and b (our own).
 abbrev pub NoneBetween : List ℕ → ℕ → ℕ → Type 0
 NoneBetween bounds a b = (c : ℕ) → Contains bounds c → a < c → b ≤ c
 
@@ -65,7 +65,7 @@ LiesIn r s = (x y : ℕ) → holds r x y ≡ true → holds s x y ≡ true
 abbrev pub SameSides : Rect → Rect → Type 0
 SameSides r s = (r.x ≡ s.x) × (r.x + r.w ≡ s.x + s.w)
 
--- Where the tile t shares a CTU with the subpicture s, it lies in it, or holds it between the tile's own left and right borders
+-- If the tile t shares a CTU with the subpicture s, it lies in it, or contains it between the tile's own left and right borders
 -- (6.3.1).
 abbrev pub TileAgrees : Rect → Rect → Type 0
 TileAgrees t s = Meet t s → LiesIn t s ⊎ (LiesIn s t × SameSides s t)

@@ -1,4 +1,4 @@
--- A frame that is composed of pictures: each stands in a region, a rectangle of the frame, and its slices are moved to the
+-- A frame that is composed of pictures. Each is placed in a region, a rectangle of the frame, and its slices are moved to the
 -- region's corner. The regions are the frame's subpictures. Our own.
 use Rattle.std.specs.Prelude.{◌≡◌, ℕ, List, [], ◌∷◌, All, length, map}
 use Rattle.std.specs.List.{flat_map, zip}
@@ -20,9 +20,9 @@ pub record Fills (region : Rect) (slices : List Rect) : Type 0 where
   pub parts : All (IsPart region.w region.h) slices
   pub once : CoversOnce slices region.w region.h
 
--- A picture that can stand in a region of a frame of these tile bounds: it has one subpicture and the region's size, each of
--- its slices holds a CTU, strictly inside the region the frame's bounds are its own, and the region's borders split the frame's
--- tiles well.
+-- A picture that can be placed in a region of a frame with these tile bounds: it has one subpicture and the region's size, and
+-- each of its slices has a CTU. Strictly inside the region the frame's bounds are its own, and the region's borders split the
+-- frame's tiles well.
 pub record IsPlaced (columns rows : List ℕ) (region : Rect) (picture : Numbers) : Type 0 where
   pub layout : HasLayout picture
   pub lone : length picture.subpics ≡ 1

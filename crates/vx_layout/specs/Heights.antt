@@ -6,7 +6,7 @@ use Rattle.vx_layout.specs.Bounds.{last}
 abbrev pub all_but_last : List ℕ → List ℕ
 all_but_last heights = take (length heights - 1) heights
 
--- All but the last where the last isn't higher than the one before it, else all; `tile_sizes` of them and the tile's height are
--- then the heights again (6.5.1, SliceHeightInCtus).
+-- All heights except the last, if the last isn't higher than the one before it, otherwise all. `tile_sizes` of them and the
+-- tile's height are then the heights again (6.5.1, SliceHeightInCtus).
 abbrev pub written_heights : List ℕ → List ℕ
 written_heights heights = cond (nat_le (last heights) (last (all_but_last heights))) (all_but_last heights) heights

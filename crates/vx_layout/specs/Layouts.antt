@@ -7,7 +7,7 @@ use Rattle.vx_layout.specs.Bounds.{Rises}
 use Rattle.vx_layout.specs.Faults.{IsInLimits, IsLayout}
 use Rattle.vx_layout.specs.Rects.{in_order, slices_of_subpicture}
 
--- No rectangle: what stands past the end of a list.
+-- No rectangle: the value past the end of a list.
 abbrev pub no_rect : Rect
 no_rect = record { x = 0; y = 0; w = 0; h = 0 }
 

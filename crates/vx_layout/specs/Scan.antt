@@ -34,7 +34,7 @@ abbrev pub tile_bound : List ℕ → ℕ → ℕ
 tile_bound [] x = 0
 tile_bound (a ∷ bs) x = tile_bound_after a bs x
 
--- Whether a CTU stands in another tile than the CTU before it, or with sync in another row (7.4.8).
+-- Whether a CTU is in another tile than the CTU before it, or with sync in another row (7.4.8).
 abbrev pub starts_entry : (ℕ → ℕ) → (ℕ → ℕ) → Bool → ℕ × ℕ → ℕ × ℕ → Bool
 starts_entry column row sync before this =
     not (column before.0 == column this.0) || (not (row before.1 == row this.1) || (sync && not (before.1 == this.1)))

@@ -26,7 +26,7 @@ pub record AreRowsOf (columns rows : List ℕ) (r t : Rect) : Type 0 where
 abbrev pub AreTilesOrRows : List ℕ → List ℕ → Rect → Type 0
 AreTilesOrRows columns rows r = AreTiles columns rows r ⊎ ((t : Rect) × AreRowsOf columns rows r t)
 
--- The rectangles that lie in t stand next to one another in the list.
+-- The rectangles that lie in t are next to each other in the list.
 abbrev pub StandTogether : List Rect → Rect → Type 0
 StandTogether rects t =
     (i j k : ℕ) (d : Rect) → i < j → j < k → k < length rects → fits (slice_index_or rects i d) t ≡ true

@@ -1,4 +1,4 @@
--- What an error of `tile_bounds` tells.
+-- The index of an error of `tile_bounds`. Our own.
 use Rattle.std.specs.Prelude.{ℕ}
 use Rattle.vx_layout.specs.declared.bounds.TileError.{TileError}
 use Rattle.vx_layout.specs.declared.bounds.TileError.TheVariants.{Memory, Overflow}

@@ -1,4 +1,5 @@
--- What a picture header depends on, which of its fields are kept, and that it is read again and rewritten. Our own.
+-- What a picture header depends on, which of its fields are kept, and that it is read again and rewritten. Our own. Mergers and
+-- readers of merged streams rely on it.
 use Rattle.std.specs.Prelude.{◌≡◌, ◌≤◌, ℕ, ℤ, pos, not, List, [], ◌∷◌, ◌++◌, filter, slice_index, Result}
 use Rattle.vx_bits.specs.declared.list.Item.{Item}
 use Rattle.vx_bits.specs.declared.refusal.ReadError.{ReadError}
@@ -40,11 +41,11 @@ ph_tables = ph_before_lists ++ (lists_tables ++ (middle ++ (weights ++ back)))
 abbrev pub kept_ph_fields : List ℕ
 kept_ph_fields = unstarred ph_tables
 
--- All that a header has, and what its rows name besides.
+-- All fields of a header, and the names in its rows.
 abbrev pub of_header : List ℕ
 of_header = named_by_all ph_before_lists ++ (named_by_all middle ++ (named_by_all back ++ (fields_behind_lists ++ named_by_all weights)))
 
--- The fields with a star, and what is named for them alone.
+-- The fields with a star, and the names that only they use.
 abbrev pub starred : List ℕ
 starred = FILTER_SET ∷ STARRED
 
@@ -79,11 +80,12 @@ starred_of_sets = pps.pps_alf_info_in_ph_flag ∷ pps.pps_qp_delta_info_in_ph_fl
 abbrev pub all_of_sets : List ℕ
 all_of_sets = starred_of_sets ++ kept_for_starred
 
--- The presence, coding and range of each kept field depend on kept fields of the sets, and kept fields before it in the header, alone.
+-- The presence, coding and range of each kept field depend only on kept fields of the sets, and on kept fields before it in the
+-- header.
 abbrev pub KeptDepend : Type 0
 KeptDepend = (table : RplTable) → DependsOnlyOn kept_of_sets kept_with_names (header_form table)
 
--- Those of each field depend besides on the two fields, and any field before it in the header.
+-- Those of each field depend in addition on the two fields, and on any field before it in the header.
 abbrev pub AllDepend : Type 0
 AllDepend = (table : RplTable) → DependsOnlyOn all_of_sets of_header (header_form table)
 

@@ -33,7 +33,7 @@ FilterGoesAgain = (ids : ℕ → ℕ) (s t : List ℕ) (items : List Item) → (
     → slice_index s sps_ccalf_enabled_flag ≡ slice_index t sps_ccalf_enabled_flag
     → Takes (form_of ALF s) items → Takes (form_of ALF t) (with_ids ids items)
 
--- That of a picture header goes through under its sets, where it stands there.
+-- That of a picture header goes through under its sets, if it is in the header.
 abbrev pub HeaderHasFilter : Type 0
 HeaderHasFilter = (table : RplTable) (s : List ℕ) (items : List Item) → ArePictureHeaderFields table s items
     → is_set (slice_index s sps_alf_enabled_flag) ≡ true → is_set (slice_index s pps_alf_info_in_ph_flag) ≡ true

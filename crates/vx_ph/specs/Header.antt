@@ -13,12 +13,12 @@ use Rattle.vx_rpl.specs.Lists.{lists_form, weights_form}
 use Rattle.vx_ph.specs.declared.tables.TheConstants.{PICTURE, PPS_ID, ORDER_COUNT, ALF, LMCS_AND_SCALING, OUTPUT}
 use Rattle.vx_ph.specs.declared.tables.TheConstants.{INTRA, INTER, QP, FILTERS}
 
--- Before the lists: the filter where the SPS has it and the PPS says that it stands here (7.3.2.8).
+-- Before the lists: the filter if the SPS has it and the PPS says that it is in the picture header (7.3.2.8).
 abbrev pub ph_before_lists : List Section
 ph_before_lists = always PICTURE ∷ always PPS_ID ∷ always ORDER_COUNT
     ∷ provided (Both (Latest sps_alf_enabled_flag) (Latest pps_alf_info_in_ph_flag)) ALF ∷ always LMCS_AND_SCALING ∷ always OUTPUT ∷ []
 
--- The lists, where the PPS says that they stand here (7.3.2.8, 7.3.9).
+-- The lists, if the PPS says that they are in the picture header (7.3.2.8, 7.3.9).
 abbrev pub lists_if_present : RplTable → List ℕ → Form (List ℕ)
 lists_if_present table = present (When (Plain (Latest pps_rpl_info_in_ph_flag))) (lists_form table)
 
@@ -26,7 +26,7 @@ lists_if_present table = present (When (Plain (Latest pps_rpl_info_in_ph_flag)))
 abbrev pub middle : List Section
 middle = always INTRA ∷ always INTER ∷ []
 
--- Prediction weights, where the header has them (7.3.2.8, 7.3.8).
+-- Prediction weights, if the header has them (7.3.2.8, 7.3.8).
 abbrev pub weights_if_present : List ℕ → Form (List ℕ)
 weights_if_present = present (When (Plain (Latest HAS_WEIGHTS))) weights_form
 

@@ -1,4 +1,4 @@
--- The id of the PPS that a picture header refers to, which stands before what the sets tell.
+-- The id of the PPS to which a picture header refers, which comes before all that depends on the sets.
 use Rattle.std.specs.Prelude.{◌≡◌, ℕ, ℤ, Bool, List, [], ◌∷◌, length, Ok}
 use Rattle.vx_bits.specs.declared.list.Item.{Item}
 use Rattle.vx_bits.specs.Place.{Place}
@@ -33,7 +33,7 @@ HeaderHasId = (table : RplTable) (s : List ℕ) (place : Place) (id : ℕ) (valu
     → length s ≡ 1024 → IsId place id → Spells place.total (header_form table s) values place.left rest
     → number (items_along (header_form table s) values) ph_pic_parameter_set_id ≡ id
 
--- A unit begins with items up to the id that a reader answers, whatever the sets, and its header's id is theirs.
+-- A unit begins with items up to the id that a reader returns, for any sets, and its header's id is theirs.
 abbrev pub UnitHasId : Type 0
 UnitHasId = (table : RplTable) (s : List ℕ) (header : PictureHeader) (bytes : List ℕ) → length s ≡ 1024 → IsPictureHeaderUnit table s header bytes
     → (items : List Item) × ((new : Place) × Reads {B = Unit {0}} pps_id_form (at_front bytes) [] (Ok tt) new items)

@@ -23,12 +23,12 @@ pub record ArePictureHeaderFields (table : RplTable) (s : List ℕ) (items : Lis
   pub follows : Follows (header_form table s) values end
   pub all : items ≡ items_along (header_form table s) values
 
--- A header has such fields, and the lists that these come to.
+-- A header has such fields, and the lists that these determine.
 pub record IsHeader (table : RplTable) (s : List ℕ) (header : PictureHeader) : Type 0 where
   pub fields : ArePictureHeaderFields table s header.fields
   pub lists : header.lists ≡ lists_of table s header.fields
 
--- What a reader answers of a header.
+-- The answer of a reader of a header.
 abbrev pub ReadsHeader : RplTable → List ℕ → Place → Result PictureHeader ReadError → Place → Type 0
 ReadsHeader table s old (Ok header) new =
     Reads {B = Unit {0}} (header_form table s) old [] (Ok tt) new header.fields × (header.lists ≡ lists_of table s header.fields)
@@ -39,7 +39,7 @@ pub record IsPictureHeaderSpelling (table : RplTable) (s : List ℕ) (header : P
   pub fields : ArePictureHeaderFields table s header.fields
   pub gained : new ≡ old ++ bits_along (header_form table s) (length old) fields.values
 
--- or of a front of it.
+-- or of a prefix of it.
 abbrev pub IsPictureHeaderFront : RplTable → List ℕ → PictureHeader → List Bool → List Bool → Type 0
 IsPictureHeaderFront table s header old new =
     (cell : Cell ℕ) × ((left : List Item)
@@ -49,7 +49,7 @@ IsPictureHeaderFront table s header old new =
 unfoldable pub unit_form : RplTable → List ℕ → Form (List ℕ)
 unit_form table s = header_form table s >>= form_of TRAILING
 
--- What a reader answers of an RBSP that is such a unit: its header, or the first refusal.
+-- The answer of a reader of an RBSP that is such a unit: its header, or the first refusal.
 abbrev pub ReadsUnit : RplTable → List ℕ → List ℕ → Result PictureHeader ReadError → Type 0
 ReadsUnit table s rbsp (Ok header) = ((new : Place) × Reads {B = Unit {0}} (unit_form table s) (at_front rbsp) [] (Ok tt) new header.fields)
     × (header.lists ≡ lists_of table s header.fields)

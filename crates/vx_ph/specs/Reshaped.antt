@@ -27,7 +27,7 @@ use Rattle.vx_ph.specs.Picture.{IsHeader}
 
 -- ---- what is stated, in the order of the syntax (7.3.2.8; what is stated is our own choice)
 
--- Luma mapping with chroma scaling, off or on: its set, and, where there is chroma, whether its residuals are scaled (7.3.2.8).
+-- Luma mapping with chroma scaling, off or on: its set, and, if there is chroma, whether its residuals are scaled (7.3.2.8).
 abbrev pub lmcs_said : (chroma : ℕ) → Option LmcsShape → List Item
 lmcs_said chroma None = item ph.ph_lmcs_enabled_flag 0 ∷ []
 lmcs_said chroma (Some lmcs) =
@@ -39,13 +39,13 @@ abbrev pub scaling_said : Option ℕ → List Item
 scaling_said None = item ph.ph_explicit_scaling_list_enabled_flag 0 ∷ []
 scaling_said (Some id) = item ph.ph_explicit_scaling_list_enabled_flag 1 ∷ item ph.ph_scaling_list_aps_id id ∷ []
 
--- Each where the SPS has it (7.3.2.8).
+-- Each if the SPS has it (7.3.2.8).
 abbrev pub map_items : List Item → PhShape → List Item
 map_items sps shape =
     where_so (is_set (number sps sps_fields.sps_lmcs_enabled_flag)) (lmcs_said (number sps sps_fields.sps_chroma_format_idc) shape.lmcs)
     ++ where_so (is_set (number sps sps_fields.sps_explicit_scaling_list_enabled_flag)) (scaling_said shape.scaling)
 
--- All that is stated: the PPS, and these; neither filter nor QP, which stand in slice headers (7.3.2.8).
+-- All new items: the PPS, and these; neither filter nor QP, which are in slice headers (7.3.2.8).
 abbrev pub stated_ph_items : List Item → PhShape → List Item
 stated_ph_items sps shape = item ph.ph_pic_parameter_set_id shape.pps_id ∷ map_items sps shape
 
@@ -93,8 +93,8 @@ pub record IsReshapedPictureHeader (source : PictureHeader) (shape : PhShape) (s
 
 -- ---- sets with the same kept fields
 
--- Headers find the same in them: the structures of lists, the numbers of all kept fields that picture headers read, and the lists that
--- the same items of a header's lists come to.
+-- Headers find the same in them: the structures of lists, the numbers of all kept fields on which picture headers depend, and the
+-- lists that the same items of a header's lists determine.
 pub record AgreeOnKept (sps pps other_sps other_pps : List Item) : Type 0 where
   pub same_structures : structures sps ≡ structures other_sps
   pub numbers : Agree kept_for_starred (in_force sps pps) (in_force other_sps other_pps)

@@ -1,4 +1,4 @@
--- What a picture is among those before it, and pictures of two streams that tell the same of their counts.
+-- The kind of a picture among those before it, and pictures of two streams whose counts depend on the same numbers. Our own.
 use Rattle.std.specs.Prelude.{◌≡◌, true, false, List, [], ◌∷◌}
 use Rattle.vx_pic.specs.declared.kind.Kind.{Kind}
 use Rattle.vx_pic.specs.Units.{is_irap_or_gdr}
@@ -8,18 +8,18 @@ use Rattle.vx_pic.specs.Counts.{fits_count, is_empty, begins_anew, kind_of, is_c
 
 -- A picture of this kind comes next after those before it, the latest first.
 pub record IsNext (earlier : List Picture) (b : Begun) (k : Kind) : Type 0 where
-  -- A sequence ended there only where there is one before.
+  -- A sequence ended there only if there is a picture before.
   pub ends : k.after_eos ≡ true → is_empty earlier ≡ false
   -- The kind, with the count, is that of its first slice.
   pub kind : k ≡ kind_of earlier k.after_eos b k.nal_type k.temporal_id
-  -- It is an IRAP or GDR picture where it begins anew.
+  -- It is an IRAP or GDR picture if it begins anew.
   pub begins : begins_anew earlier k.after_eos ≡ true → is_irap_or_gdr k.nal_type ≡ true
   -- Its SPS is that of the picture before, unless it starts a coded layer video sequence.
   pub same : k.clvss ≡ false → is_changed earlier b.sps ≡ false
   -- The count has 32 bits.
   pub fits : fits_count k.poc ≡ true
 
--- Headers that tell the same of counts.
+-- Headers that agree on what counts depend on.
 pub record AlikeForCounts (a b : Begun) : Type 0 where
   pub lsb : lsb_of a.header ≡ lsb_of b.header
   pub cycle : msb_cycle a.header ≡ msb_cycle b.header

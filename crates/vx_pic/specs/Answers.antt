@@ -8,6 +8,6 @@ abbrev pub ◌>>=◌ : {A B : Type 0} → Result A Refusal → (A → Result B R
 (Ok a) >>= next = next a
 (Err r) >>= next = Err r
 
--- Refused where this holds.
+-- Refused if this holds.
 abbrev pub refuse_if : Bool → Refusal → Result (Unit {0}) Refusal
 refuse_if holds r = cond holds (Err r) (Ok tt)

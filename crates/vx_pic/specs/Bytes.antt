@@ -23,7 +23,7 @@ end_refusal false before = Some (Limit LONG_SOURCE)
 abbrev pub first_refusal : Bool → Option Refusal → StreamReading → Option Refusal
 first_refusal all framing o = option_or o.refusal (option_or framing (end_refusal all o.before))
 
--- That of bytes, where one is broken (our own).
+-- That of bytes, if a rule is broken (our own).
 abbrev pub ending_by : Bool → Option Refusal → StreamReading → Option Ending
 ending_by all framing o = option_map (λ r. record { units = length o.before; refusal = r }) (first_refusal all framing o)
 
@@ -43,6 +43,6 @@ pub record ArePictures (R : Readers) (b : List ℕ) (all : Bool) (ps : List Pict
 abbrev pub AreSourcePictures : Readers → List ℕ → List Picture → Option Ending → Type 0
 AreSourcePictures R b ps ending = ArePictures R (take source_limit b) (nat_le (length b) source_limit) ps ending
 
--- The pictures that are seen in bytes, however these go on (our own).
+-- The pictures that are seen in bytes, however the bytes continue (our own).
 abbrev pub AreSeenPictures : Readers → List ℕ → List Picture → Type 0
 AreSeenPictures R b ps = (ending : Option Ending) × ArePictures R b false ps ending

@@ -1,4 +1,4 @@
--- What the code of counts has, in the words of their definition.
+-- The values in the code of counts, related to those of their definition.
 use Rattle.std.specs.Prelude.{ℤ, pos, ◌-ℤ◌, cond, Result, Ok, Err}
 use Rattle.vx_bits.specs.declared.refusal.Refusal.{Refusal}
 use Rattle.vx_bits.specs.declared.refusal.Refusal.TheVariants.{Structure}
@@ -10,6 +10,6 @@ use Rattle.vx_pic.specs.Counts.{Previous, fits_count}
 abbrev pub previous_of : PrevTid0 → Previous
 previous_of p = record { lsb = p.lsb; msb = p.poc -ℤ pos p.lsb }
 
--- A count, refused where it doesn't have 32 bits.
+-- A count, refused if it doesn't fit in 32 bits.
 abbrev pub checked : ℤ → Result ℤ Refusal
 checked z = cond (fits_count z) (Ok z) (Err (Structure POC_RANGE 0 0))

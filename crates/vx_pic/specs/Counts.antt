@@ -25,7 +25,7 @@ pub record Previous : Type 0 where
 abbrev pub counts_of : Picture → Previous
 counts_of p = record { lsb = lsb_of p.begun.header; msb = p.kind.poc -ℤ pos (lsb_of p.begun.header) }
 
--- 0 where there is none (our own; nothing comes before).
+-- 0 if there is none (our own; nothing comes before).
 abbrev pub no_counts : Previous
 no_counts = record { lsb = 0; msb = pos 0 }
 
@@ -45,7 +45,7 @@ nearest_msb max lsb a =
     cond (nat_lt lsb a.lsb && nat_le max (2 * (a.lsb - lsb))) (a.msb +ℤ pos max)
     (cond (nat_lt a.lsb lsb && nat_lt max (2 * (lsb - a.lsb))) (a.msb -ℤ pos max) a.msb)
 
--- ph_poc_msb_cycle_val tells it where it is present; at the start of a coded layer video sequence it is 0 (8.3.1).
+-- ph_poc_msb_cycle_val determines it if it is present; at the start of a coded layer video sequence it is 0 (8.3.1).
 abbrev pub msb_by : Option ℕ → Bool → ℕ → ℕ → Previous → ℤ
 msb_by (Some cycle) clvss max lsb a = pos (cycle * max)
 msb_by None true max lsb a = pos 0
@@ -55,7 +55,7 @@ msb_by None false max lsb a = nearest_msb max lsb a
 abbrev pub pic_order_count : Option ℕ → Bool → ℕ → ℕ → Previous → ℤ
 pic_order_count cycle clvss max lsb a = msb_by cycle clvss max lsb a +ℤ pos lsb
 
--- From what the SPS and the header tell (8.3.1).
+-- From the SPS and the header (8.3.1).
 abbrev pub count_by : List Item → List Item → Bool → Previous → ℤ
 count_by sps header clvss a = pic_order_count (msb_cycle header) clvss (max_lsb sps) (lsb_of header) a
 

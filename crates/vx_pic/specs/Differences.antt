@@ -1,24 +1,23 @@
--- Where decoding inputs differ first. Our own.
+-- The first difference of two decoding inputs. Our own.
 use Rattle.std.specs.Prelude.{◌≡◌, ◌⊎◌, ℕ, ◌+◌, cond, List, [], ◌∷◌, ◌++◌, Option, Some, None, unwrap_or}
 use Rattle.vx_bits.specs.declared.list.Item.{Item}
 use Rattle.vx_pic.specs.declared.compare.Difference.{Difference}
 use Rattle.vx_pic.specs.Sets.{same_item}
 use Rattle.vx_pic.specs.Inputs.{Input}
 
--- The field at the first place where two lists of items differ: the first list's there, or the second's where the first has
--- ended.
+-- The field at the first place where two lists of items differ: the first list's there, or the second's if the first has ended.
 abbrev pub differing_field : List Item → List Item → Option ℕ
 differing_field [] [] = None
 differing_field [] (b ∷ others) = Some b.field
 differing_field (a ∷ items) [] = Some a.field
 differing_field (a ∷ items) (b ∷ others) = cond (same_item a b) (differing_field items others) (Some a.field)
 
--- A part of two inputs: that they are the same in it, and the field that is told where they aren't.
+-- A part of two inputs: that they are the same in it, and the field that is named if they aren't.
 pub record Part : Type 1 where
   pub same : Type 0
   pub field : ℕ
 
--- A list of kept fields, and any other part, of which no field is told.
+-- A list of kept fields, and any other part, for which no field is named.
 abbrev pub fields_part : List Item → List Item → Part
 fields_part items others = record { same = items ≡ others; field = unwrap_or (differing_field items others) 0 }
 
@@ -41,7 +40,7 @@ abbrev pub DiffersFirst : List Part → ℕ → Difference → Type 0
 DiffersFirst [] n d = ⊥
 DiffersFirst (p ∷ more) n d = (¬ p.same × (d ≡ record { part = n; field = p.field })) ⊎ (p.same × DiffersFirst more (n + 1) d)
 
--- What is answered of two inputs: that they are equal, or where they differ first.
+-- The result for two inputs: that they are equal, or their first difference.
 abbrev pub IsDifference : Input → Input → Option Difference → Type 0
 IsDifference a b None = a ≡ b
 IsDifference a b (Some d) = DiffersFirst (parts_in_headers a b ++ parts_in_force a b) 1 d

@@ -1,4 +1,4 @@
--- What holds of the pictures of units: what is asked of a picture that is written holds of each picture that was read.
+-- That each picture that was read has what is required of a picture that is written.
 use Rattle.std.specs.Prelude.{◌≡◌, ℕ, ◌≤◌, true, false, List, [], ◌∷◌}
 use Rattle.std.specs.List.{AllByRecursion}
 use Rattle.vx_sei.specs.Sei.{spelled_length}
@@ -11,7 +11,7 @@ use Rattle.vx_pic.specs.Alike.{IsNext}
 use Rattle.vx_pic.specs.Written.{AreInOrder, AreInForce, HeadReads, SliceReads}
 
 module _ (R : Readers) where
-  -- A picture after these, the latest first, as far as its slices came.
+  -- A picture after these, the latest first, with the slices so far.
   pub record IsSoundPicture (earlier : List Picture) (p : Picture) : Type 0 where
     pub first : Slice
     pub more : List Slice

@@ -1,4 +1,4 @@
--- Readers of sets and headers that answer what their bytes spell (H.266 7.3), or the first refusal in them.
+-- Readers of sets and headers that return what their bytes spell (H.266 7.3), or the first refusal in them.
 use Rattle.std.specs.Prelude.{◌≡◌, ℕ, ℤ, ◌+◌, ◌*◌, Bool, true, false, List, length, drop, Result, Ok, Err}
 use Rattle.vx_annexb.specs.Places.{IsFirstFrom}
 use Rattle.vx_bits.specs.declared.list.Item.{Item}
@@ -41,7 +41,7 @@ pub record BeginsItems {A : Type 0} (form : Form A) (place : Place) (items : Lis
   pub spelled : Spells place.total form values place.left rest
   pub all : items ≡ items_along form values
 
--- or they spell values up to a field of it, and there the field is refused, so (7.3).
+-- or they spell values up to a field of it, and there the field is refused for this (7.3).
 pub record IsRefusedAt {A : Type 0} (form : Form A) (place : Place) (r : Refusal) : Type 0 where
   pub values : List ℤ
   pub cell : Cell ℕ
@@ -55,7 +55,8 @@ AnswersAt form place (Err r) = IsRefusedAt form place r
 
 -- ---- picture headers (7.3.2.8)
 
--- Where it begins: in a PH unit at the first bit, in a slice after sh_picture_header_in_slice_header_flag (7.3.2.7, 7.3.7).
+-- The place where it begins: in a PH unit at the first bit, in a slice after sh_picture_header_in_slice_header_flag (7.3.2.7,
+-- 7.3.7).
 abbrev pub header_place : Bool → List ℕ → Place
 header_place true rbsp = record { total = 8 * length rbsp; left = drop 1 (bits_of rbsp) }
 header_place false rbsp = at_front rbsp

@@ -1,4 +1,4 @@
--- What holds of the readers of H.266: their answers are determined, and there are such readers.
+-- Laws on the readers of H.266: their answers are determined, and such readers exist.
 use Rattle.std.specs.Prelude.{◌≡◌, ℕ, Bool, List}
 use Rattle.vx_bits.specs.declared.list.Item.{Item}
 use Rattle.vx_aps.specs.Aps as aps

@@ -1,7 +1,7 @@
--- The decoding input of a slice: all that decoding it depends on except for the pictures that it refers to, told without ids
--- and places in the frame. Left out is how a subpicture stands to those beside it (sps_subpic_treated_as_pic_flag and
--- sps_loop_filter_across_subpic_enabled_flag): two slices whose inputs are equal decode alike where both subpictures are the
--- whole picture, or are treated as pictures and not filtered across. H.266 has no such term: it is our own.
+-- The decoding input of a slice: everything that its decoding depends on, except for the pictures to which it refers, without ids
+-- and places in the frame. Left out is how a subpicture relates to its neighbours (sps_subpic_treated_as_pic_flag and
+-- sps_loop_filter_across_subpic_enabled_flag): two slices whose inputs are equal decode alike if both subpictures are the whole
+-- picture, or are treated as pictures and not filtered across. H.266 has no such term: it is our own.
 use Rattle.std.specs.Prelude.{◌≡◌, ℕ, ℤ, ◌+◌, ◌-◌, ◌*◌, ◌==◌, ◌&&◌, ◌||◌, min, nat_lt, Bool, cond, List, [], ◌∷◌, ◌++◌, length, map, filter}
 use Rattle.std.specs.Prelude.{drop, Option, None, option_map, option_and_then, option_to_list}
 use Rattle.vx_bits.specs.declared.list.Item.{Item}
@@ -46,11 +46,11 @@ kept_slice_items items = shown_items slice_kept.kept_fields items
 
 -- ---- adaptation parameter sets in force, by their bodies (7.4.3.6)
 
--- The body of a type and id, where the picture has it.
+-- The body of a type and id, if the picture has it.
 abbrev pub body_of : Parts → ℕ → ℕ → Option (List ℕ)
 body_of p kind id = option_map (λ a. a.body) (aps_at p.bodies kind id)
 
--- That of the set that a field names, where the field is present.
+-- The body of the set that a field names, if the field is present.
 abbrev pub named_body : Parts → ℕ → ℕ → List Item → Option (List ℕ)
 named_body p kind of items = option_and_then (λ id. body_of p kind (natural id)) (first_value items of)
 
@@ -81,14 +81,14 @@ alf_of p items = record {
   cc_cr = named_body p aps.ALF alf.alf_cc_cr_aps_id items;
 }
 
--- The slice uses what the picture header enables: where this is inside the slice, or the slice says so (7.4.8,
--- sh_lmcs_used_flag and sh_explicit_scaling_list_used_flag).
+-- The slice uses what the picture header enables: if this is inside the slice, or the slice says so (7.4.8, sh_lmcs_used_flag and
+-- sh_explicit_scaling_list_used_flag).
 abbrev pub is_used : List Item → SliceValue → (enabled used : ℕ) → Bool
 is_used header h enabled used =
     is_set (number header enabled)
     && (is_set (number h.fields sh.sh_picture_header_in_slice_header_flag) || is_set (number h.fields used))
 
--- Luma mapping with chroma scaling, with ph_chroma_residual_scale_flag, where the slice uses it (7.4.3.8, 7.4.8).
+-- Luma mapping with chroma scaling, with ph_chroma_residual_scale_flag, if the slice uses it (7.4.3.8, 7.4.8).
 abbrev pub lmcs_of : Parts → SliceValue → Option (List ℕ × Bool)
 lmcs_of p h =
     cond (is_used p.header.fields h ph.ph_lmcs_enabled_flag sh.sh_lmcs_used_flag)
@@ -96,7 +96,7 @@ lmcs_of p h =
     (named_body p aps.LMCS ph.ph_lmcs_aps_id p.header.fields))
     None
 
--- Scaling lists, where the slice uses them (7.4.3.8, 7.4.8).
+-- Scaling lists, if the slice uses them (7.4.3.8, 7.4.8).
 abbrev pub scaling_of : Parts → SliceValue → Option (List ℕ)
 scaling_of p h =
     cond (is_used p.header.fields h ph.ph_explicit_scaling_list_enabled_flag sh.sh_explicit_scaling_list_used_flag)
@@ -110,7 +110,7 @@ lists_in_force p h = cond (is_set (number p.pps pps.pps_rpl_info_in_ph_flag)) p.
 
 -- ---- the place of the slice, counted from the corner of its subpicture
 
--- Luma samples of so many CTUs from a column or row on, in a picture of so many samples: its last CTUs may be cut.
+-- The luma samples of a number of CTUs from a column or row on, in a picture of `total` samples: its last CTUs may be cut.
 abbrev pub luma_size : ℕ → ℕ → ℕ → ℕ → ℕ
 luma_size from size ctb total = min ((from + size) * ctb) total - from * ctb
 
@@ -121,8 +121,8 @@ has_several_tiles n = nat_lt 2 (length n.columns) || nat_lt 2 (length n.rows)
 abbrev pub has_several_slices : Numbers → Bool
 has_several_slices n = nat_lt 1 (length n.slices)
 
--- That of the slice at an address of subpicture k (7.4.8): the subpicture's width and height in luma samples, and its layout; the
--- address; and whether in-loop filters cross the borders of its tiles, and of its slices (7.4.3.5), false where it has but one.
+-- The place of the slice at an address of subpicture k (7.4.8): the subpicture's width and height in luma samples, and its layout;
+-- the address; and whether in-loop filters cross the borders of its tiles, and of its slices (7.4.3.5), false if it has only one.
 abbrev pub place_in : Parts → ℕ → ℕ → Place
 place_in p k address = record {
   width = luma_size (rect_of p.sps k).x (rect_of p.sps k).w (ctb_size_of p.sps) (number p.pps pps.pps_pic_width_in_luma_samples);
@@ -135,8 +135,8 @@ place_in p k address = record {
 
 -- ---- the decoding input
 
--- The kind of the picture; the kept fields of its sets, its header and the slice header; what is in force; SliceQpY (7.4.8);
--- the place; and the bytes of the unit after the slice header, as they stand.
+-- The kind of the picture; the kept fields of its sets, its header and the slice header; what is in force; SliceQpY (7.4.8); the
+-- place; and the bytes of the unit after the slice header, unchanged.
 pub record Input : Type 0 where
   pub kind : Kind
   pub sps : List Item
@@ -151,7 +151,7 @@ pub record Input : Type 0 where
   pub place : Place
   pub payload : List ℕ
 
--- That of a slice of a picture, as callers see both.
+-- The decoding input of a slice of a picture, in terms of the models of both.
 abbrev pub input_in : Parts → SlicePart → Input
 input_in p s = record {
   kind = p.kind;

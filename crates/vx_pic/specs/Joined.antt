@@ -21,7 +21,7 @@ pub record Starts (p : Picture) : Type 0 where
   pub tid : p.kind.temporal_id ≡ 0
   pub ref : is_non_ref p.begun.header ≡ false
 
--- Pictures from such a one on come after other pictures as well as after their own, where an end of sequence stands before it.
+-- Pictures from such a one on can follow other pictures as well as their own, if an end of sequence comes before it.
 abbrev pub JoinedAreFinished : Type 0
 JoinedAreFinished = (R : Readers) (later earlier others : List Picture) (p : Picture) → Starts p → is_empty others ≡ false
     → AreFinished R (later ++ p ∷ earlier) → AreFinished R others → AreFinished R (later ++ after_end p ∷ others)
@@ -33,17 +33,17 @@ abbrev pub one_behind_another : List Picture → List (List Picture) → List Pi
 one_behind_another before [] = before
 one_behind_another before (f ∷ files) = one_behind_another (f ++ before) files
 
--- A file begins with picture n, where so many pictures come before these files.
+-- A file begins with picture n, if `before` pictures come before these files.
 abbrev pub begins_file : ℕ → List (List Picture) → ℕ → Bool
 begins_file before [] n = false
 begins_file before (f ∷ files) n = (not (is_empty f) && before == n) || begins_file (before + length f) files n
 
--- So a picture is the first of its file exactly where none of this file comes before it.
+-- So a picture is the first of its file exactly if none of this file comes before it.
 abbrev pub BeginsWhereFirst : Type 0
 BeginsWhereFirst = (more : List (List Picture)) (others : List Picture) (p : Picture) (later : List Picture) (rest : List (List Picture))
     → begins_file 0 (more ++ (later ++ p ∷ others) ∷ rest) (length (one_behind_another [] (more ++ others ∷ []))) ≡ is_empty others
 
--- The pictures as they are played: after an end of sequence where they are joined.
+-- The pictures as they are played: after an end of sequence if they are joined.
 abbrev pub played : (ℕ → Bool) → List Picture → List Picture
 played joins [] = []
 played joins (p ∷ earlier) = cond (joins (length earlier)) (after_end p) p ∷ played joins earlier

@@ -1,4 +1,4 @@
--- What callers see of a picture, and which picture of a stream that is. Our own.
+-- How callers see a picture, and which picture of a stream that is. Our own. Contracts of `Picture` and all that use it rely on it.
 use Rattle.std.specs.Prelude.{◌≡◌, ℕ, ℤ, ◌+◌, ◌-◌, ◌*◌, ◌<◌, ◌≤◌, ◌==◌, ◌&&◌, nat_lt, true, false, cond, List, ◌++◌, length, map, take}
 use Rattle.std.specs.Prelude.{Option, Some, None, is_none}
 use Rattle.std.specs.List.{AllByRecursion, range_with_len, slice_index_or, slice_range}
@@ -56,7 +56,7 @@ pub record SlicePart : Type 0 where
   pub header : SliceValue
   pub payload : ℕ
 
--- A picture: its kind, the items of its sets, its layout, its header, the ids of its subpictures, the PH unit where it has one, its
+-- A picture: its kind, the items of its sets, its layout, its header, the ids of its subpictures, the PH unit if it has one, its
 -- slices in order, its adaptation parameter sets (those of type 0 by their ids, then those of types 1 and 2), and its messages.
 pub record Parts : Type 0 where
   pub kind : Kind
@@ -78,7 +78,7 @@ slice_in bytes s = record { unit = slice_range bytes s.start s.end; header = s.h
 abbrev pub part_of : SliceView → SlicePart
 part_of v = record { unit = v.unit.now; header = v.header.now; payload = length v.unit.now - length v.payload.now }
 
--- The PH unit, which comes first; none where the header is inside the slice.
+-- The PH unit, which comes first; none if the header is inside the slice.
 abbrev pub header_unit_in : List ℕ → ℕ → Option (List ℕ)
 header_unit_in bytes end = cond (end == 0) None (Some (take end bytes))
 
@@ -98,7 +98,7 @@ seen p = record {
 
 -- ---- what is asked of it
 
--- Its places stand in the bytes, in order, and the payload isn't empty.
+-- Its places are in the bytes, in order, and the payload isn't empty.
 pub record IsPlaced (bytes : List ℕ) (s : SliceSlot) : Type 0 where
   pub start : s.start ≤ s.payload
   pub payload : s.payload < s.end
@@ -116,7 +116,7 @@ aps_named_by pps header h = names_of pps header (read_of h)
 abbrev pub AreThere : List (Option Aps) → List Slot → Type 0
 AreThere sets slots = AllByRecursion (λ slot. is_none (aps_at sets slot.kind slot.id) ≡ false) slots
 
--- A slice header is one that is read at this place: it has such fields, and the numbers that these come to.
+-- A slice header is one that is read here: it has such fields, and the numbers that these determine.
 pub record IsReadAt (n : At) (h : SliceValue) : Type 0 where
   pub inside : List ℤ
   pub fields : AreFields n h.fields inside
@@ -127,11 +127,11 @@ pub record MakePicture (p : PictureParts) : Type 0 where
   -- Its type and its TemporalId are those of a NAL unit (the first slice's).
   pub type : p.kind.nal_type < 32
   pub tid : p.kind.temporal_id < 7
-  -- There is a slice, and all slices of the layout came (a whole picture), of which there are at most so many.
+  -- There is a slice, and all slices of the layout are present (a whole picture); their number is bounded.
   pub some : 0 < length p.slices.now
   pub whole : length p.slices.now ≡ length p.layout.now.slices
   pub few : length p.slices.now ≤ 1000
-  -- The units stand in the bytes, each slice with a payload (a slice that is read).
+  -- The units are in the bytes, each slice with a payload (a slice that is read).
   pub header : p.header_end ≤ length p.bytes.now
   pub places : AllByRecursion (IsPlaced p.bytes.now) p.slices.now
   -- Both sets have one size, and make up the layout and the ids, one of each subpicture (a header that is read).
@@ -153,7 +153,7 @@ pub record MakePicture (p : PictureParts) : Type 0 where
 
 -- ---- which picture it is
 
--- The header of a slice of a picture, with the lists that its items come to.
+-- The header of a slice of a picture, with the lists that its items determine.
 abbrev pub slice_header_of : Begun → SliceHeader → SliceValue
 slice_header_of b h = record {
   inside = is_set (number h.fields sh_picture_header_in_slice_header_flag);
@@ -166,7 +166,7 @@ slice_header_of b h = record {
 abbrev pub slice_part : Begun → Slice → SlicePart
 slice_part b s = record { unit = s.unit; header = slice_header_of b s.header; payload = s.header.payload }
 
--- A picture of a stream, as callers see it.
+-- A picture of a stream, as its model.
 abbrev pub parts_of : Picture → Parts
 parts_of p = record {
   kind = p.kind;

@@ -47,7 +47,7 @@ numbers_in s p = record { columns = columns_in_picture s p; rows = rows_in_pictu
 
 -- ---- ids of subpictures (7.4.3.5)
 
--- SubpicIdVal (7.4.3.5): where ids are signalled those of the PPS, or else of the SPS; and else the indices.
+-- SubpicIdVal (7.4.3.5): if ids are signalled those of the PPS, or else of the SPS; otherwise the indices.
 abbrev pub are_in_pps : List Item → List Item → Bool
 are_in_pps s p =
     is_set (number s sps_fields.sps_subpic_id_mapping_explicitly_signalled_flag)
@@ -87,7 +87,7 @@ ids_too_short s =
     is_set (number s sps_fields.sps_subpic_info_present_flag)
     && nat_lt (2 ^ (number s sps_fields.sps_subpic_id_len_minus1 + 1)) (subpics_of s)
 
--- The ids stand where they aren't wanted, or the other way round, or aren't as the SPS says (7.4.3.4, 7.4.3.5).
+-- The ids are where they must not be, or are missing where they must be, or aren't as the SPS says (7.4.3.4, 7.4.3.5).
 unfoldable pub ids_misplaced : List Item → List Item → Bool
 ids_misplaced s p =
     not (same_flag (is_set (number p pps_fields.pps_subpic_id_mapping_present_flag)) (needs_ids s))
@@ -123,7 +123,7 @@ pub data IsFault (s p : List Item) : ℕ → Type 0 where
   ids_differ : ctu_sizes_differ s p ≡ false → ¬ IdsAgree s p → IsFault s p ids_fault
   numbers : {k : ℕ} → ctu_sizes_differ s p ≡ false → IdsAgree s p → IsLowestFault (numbers_in s p) k → IsFault s p k
 
--- What the two sets give: the layout, or the refusal that names its lowest fault.
+-- What the two sets determine: the layout, or the refusal that names its lowest fault.
 abbrev pub layout_refusal : ℕ → Refusal
 layout_refusal k = Structure LAYOUT 0 k
 

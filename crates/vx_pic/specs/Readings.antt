@@ -1,5 +1,5 @@
--- What units are read as, and what that says at a place: `before` is the list of what the units before it were read as, the latest
--- first. Our own.
+-- What units are read as, and the state that follows at a place: `before` is the list of what the units before it were read as, the
+-- latest first. Our own.
 use Rattle.std.specs.Prelude.{ℕ, ◌==◌, ◌&&◌, not, Bool, true, false, cond, List, [], ◌∷◌, ◌++◌, length, Option, Some, None}
 use Rattle.std.specs.Option.{option_or}
 use Rattle.vx_bits.specs.declared.list.Item.{Item}
@@ -9,8 +9,8 @@ use Rattle.vx_sei.specs.declared.message.Message.{Message}
 use Rattle.vx_pic.specs.declared.kind.Kind.{Kind}
 use Rattle.vx_pic.specs.Sets.{SliceHeader, sps_id, pps_id}
 
--- A picture header with what is in force for it: the sets that it refers to, their layout, and its TemporalId; and the PH unit
--- that it came in, None where it is inside a slice.
+-- A picture header with what is in force for it: the sets to which it refers, their layout, and its TemporalId; and the PH unit in
+-- which it came, None if it is inside a slice.
 pub record Begun : Type 0 where
   pub sps : List Item
   pub pps : List Item
@@ -44,12 +44,12 @@ pub data Reading : Type 0 where
 
 -- ---- sets in force
 
--- The latest reading that gives something.
+-- The latest reading that has a value.
 abbrev pub latest_given : {A : Type 0} → (Reading → Option A) → List Reading → Option A
 latest_given gives [] = None
 latest_given gives (r ∷ before) = option_or (gives r) (latest_given gives before)
 
--- The set of an id, where the unit is one.
+-- The set with an id, if the unit is one.
 abbrev pub sps_in : ℕ → Reading → Option (List Item)
 sps_in id (sps_read s) = cond (sps_id s == id) (Some s) None
 sps_in id _ = None
@@ -108,11 +108,11 @@ aps_of p kind id = stored_aps kind id p.before
 abbrev pub messages_of : Picture → List Message
 messages_of p = gathered p.before
 
--- All its slices came.
+-- All its slices are present.
 abbrev pub is_whole : Picture → Bool
 is_whole p = length p.slices == length p.begun.layout.slices
 
--- The picture that was begun last: none, a header alone, or with slices.
+-- The picture that was begun last: none, only a header, or with slices.
 pub data Current : Type 0 where
   nothing : Current
   headed : Begun → Current
@@ -130,19 +130,19 @@ current (first_slice b k s ∷ before) = going (record { begun = b; kind = k; be
 current (next_slice s ∷ before) = with_slice s (current before)
 current (_ ∷ before) = current before
 
--- A picture is begun, and not all its slices came.
+-- A picture is begun, and not all its slices are present.
 abbrev pub is_open : Current → Bool
 is_open nothing = false
 is_open (headed b) = true
 is_open (going p) = not (is_whole p)
 
--- Some of its slices came, and not all.
+-- Some of its slices are present, and not all.
 abbrev pub is_within_picture : Current → Bool
 is_within_picture nothing = false
 is_within_picture (headed b) = false
 is_within_picture (going p) = not (is_whole p)
 
--- The picture, where it is whole.
+-- The picture, if it is whole.
 abbrev pub picture_if_whole : Current → List Picture
 picture_if_whole nothing = []
 picture_if_whole (headed b) = []

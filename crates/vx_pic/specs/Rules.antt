@@ -1,5 +1,5 @@
--- How a unit is read after those before it, rule by rule in the order in which they are tried, whatever sets and headers are
--- read as. Our own in their order; each cites what it restates, and the others are our own.
+-- How a unit is read after those before it, rule by rule in the order in which they are tried, whatever sets and headers are read
+-- as. The order is our own; each rule cites the clause that it restates, and the others are our own.
 use Rattle.std.specs.Prelude.{ℕ, ◌+◌, ◌^◌, ◌==◌, ◌&&◌, not, nat_le, nat_lt, Bool, cond, List, [], ◌∷◌, ◌++◌, length, sum_by}
 use Rattle.std.specs.Prelude.{Option, Some, None, is_none, ok_or, Result, Ok, Err}
 use Rattle.vx_bits.specs.declared.list.Item.{Item}
@@ -31,7 +31,7 @@ pub record Readers : Type 0 where
   pub aps : List ℕ → Result (Option Aps) Refusal
   -- The carried messages; none of what is no SEI RBSP.
   pub sei : List ℕ → List Message
-  -- The layout that an SPS and a PPS give, or the lowest fault (6.5.1).
+  -- The layout that an SPS and a PPS determine, or the lowest fault (6.5.1).
   pub layout : List Item → List Item → Result Numbers Refusal
   -- ph_pic_parameter_set_id, and the picture header under its sets; in a slice, or in a PH unit with what ends it.
   pub referred_pps : Bool → List ℕ → Result ℕ Refusal
@@ -82,11 +82,11 @@ aps_reading None = dropped
 abbrev pub kind_at : List Reading → Begun → List ℕ → Kind
 kind_at before b u = kind_of (pictures before) (is_ended before) b (nal_unit_type u) (temporal_id u)
 
--- It begins anew with another picture than an IRAP or GDR picture (7.4.2.4.2).
+-- It begins anew with a picture that is neither an IRAP nor a GDR picture (7.4.2.4.2).
 abbrev pub starts_elsewhere : List Reading → List ℕ → Bool
 starts_elsewhere before u = begins_anew (pictures before) (is_ended before) && not (is_irap_or_gdr (nal_unit_type u))
 
--- A picture begins: where a coded layer video sequence may, with the SPS of that sequence, and a count of 32 bits (7.4.2.4.2,
+-- A picture begins: where a coded layer video sequence may begin, with the SPS of that sequence, and a count of 32 bits (7.4.2.4.2,
 -- 8.3.1).
 abbrev pub opened_as : Bool → Bool → Kind → Result Kind Refusal
 opened_as elsewhere changed k = do
@@ -109,7 +109,7 @@ gathers before messages = do
   Ok (messages_read messages)
 
 module _ (R : Readers) where
-  -- A picture header, in a PH unit or inside a slice, where there is none (7.4.2.4, 7.4.3.8).
+  -- A picture header, in a PH unit or, without one, inside a slice (7.4.2.4, 7.4.3.8).
   abbrev pub begins : List Reading → List ℕ → Option (List ℕ) → Result Begun Refusal
   begins before u unit = do
     id ← R.referred_pps (is_none unit) (rbsp_of u)
@@ -145,7 +145,7 @@ module _ (R : Readers) where
     s ← joins p u
     Ok (next_slice s)
 
-  -- A slice whose picture header came before it (7.4.2.4).
+  -- A slice whose picture header was read before it (7.4.2.4).
   abbrev pub follows : List Reading → Current → List ℕ → Result Reading Refusal
   follows before nothing u = Err (structure rules.SLICE_WITHOUT_HEADER)
   follows before (headed b) u = first before b u

@@ -1,4 +1,4 @@
--- Decoding inputs of the code, in the words of their definition.
+-- The decoding inputs in the code, related to those of their definition.
 use Rattle.std.specs.Prelude.{map, option_map, option_copied}
 use Rattle.vx_pic.specs.declared.in_force.AlfInForce.{AlfInForce}
 use Rattle.vx_pic.specs.declared.input.DecodingInput.{DecodingInput}

@@ -1,4 +1,4 @@
--- Parameter sets and headers as lists of their items, and what they tell of a picture and its slices.
+-- Parameter sets and headers as lists of their items, and what they say of a picture and its slices.
 use Rattle.std.specs.Prelude.{ℕ, ℤ, pos, neg_ℤ, ◌+◌, ◌+ℤ◌, ◌*◌, ◌^◌, ◌==◌, ◌&&◌, int_le, Bool, true, false, cond, List, [], ◌∷◌, ◌++◌}
 use Rattle.std.specs.Prelude.{length, map, filter, take, Option, Some, None, unwrap_or}
 use Rattle.std.specs.Ordering.{int_eq}
@@ -28,7 +28,7 @@ pps_id p = number p pps.pps_pic_parameter_set_id
 unfoldable pub referred_sps : List Item → ℕ
 referred_sps p = number p pps.pps_seq_parameter_set_id
 
--- The pictures of both have one size (7.4.3.5), where the resolution doesn't change.
+-- The pictures of both have the same size (7.4.3.5), since the resolution doesn't change.
 unfoldable pub same_size : List Item → List Item → Bool
 same_size s p =
     (number p pps.pps_pic_width_in_luma_samples == number s sps.sps_pic_width_max_in_luma_samples)
@@ -54,7 +54,7 @@ max_lsb s = 2 ^ (number s sps.sps_log2_max_pic_order_cnt_lsb_minus4 + 4)
 unfoldable pub lsb_of : List Item → ℕ
 lsb_of header = number header ph.ph_pic_order_cnt_lsb
 
--- ph_poc_msb_cycle_val, where it is present (7.4.3.8).
+-- ph_poc_msb_cycle_val, if it is present (7.4.3.8).
 unfoldable pub msb_cycle : List Item → Option ℕ
 msb_cycle header = cond (is_set (number header ph.ph_poc_msb_cycle_present_flag)) (Some (number header ph.ph_poc_msb_cycle_val)) None
 
@@ -64,8 +64,8 @@ is_non_ref header = is_set (number header ph.ph_non_ref_pic_flag)
 
 -- ---- slices
 
--- What is read of a slice: the items of its header, the index of its subpicture (CurrSubpicIdx, 7.4.8), and the place in its
--- unit after the header, where slice_data( ) begins.
+-- What is read of a slice: the items of its header, the index of its subpicture (CurrSubpicIdx, 7.4.8), and the place in its unit
+-- after the header, where slice_data( ) begins.
 pub record SliceHeader : Type 0 where
   pub fields : List Item
   pub subpic : ℕ
@@ -90,7 +90,7 @@ pub record Slot : Type 0 where
 abbrev pub named : ℕ → ℕ → List Item → List Slot
 named kind of items = map (λ item. record { kind = kind; id = natural item.value }) (filter (λ item. item.field == of) items)
 
--- The filter of a slice stands in the picture header or in its own (7.4.3.5, pps_alf_info_in_ph_flag).
+-- The filter of a slice is in the picture header or in its own (7.4.3.5, pps_alf_info_in_ph_flag).
 abbrev pub filter_items : List Item → List Item → SliceHeader → List Item
 filter_items p header h = cond (is_set (number p pps.pps_alf_info_in_ph_flag)) header h.fields
 
@@ -111,7 +111,7 @@ names_of p header h =
 
 -- ---- the quantization parameter of a slice (7.4.3.5, 7.4.3.8, 7.4.8)
 
--- The value of a field, and 0 where it is absent (our own).
+-- The value of a field, or 0 if it is absent (our own).
 abbrev pub signed : List Item → ℕ → ℤ
 signed items of = unwrap_or (first_value items of) (pos 0)
 

@@ -18,7 +18,7 @@ all_read before = record { before = before; refusal = None }
 abbrev pub stopped : List Reading → Refusal → StreamReading
 stopped before r = record { before = before; refusal = Some r }
 
--- A unit after these, and what follows where it is read.
+-- A unit after these, and what follows if it is read.
 abbrev pub one_more : Result Reading Refusal → List Reading → (List Reading → StreamReading) → StreamReading
 one_more (Ok r) before rest = rest (r ∷ before)
 one_more (Err r) before rest = stopped before r
@@ -28,7 +28,7 @@ abbrev pub read_on : Readers → List Reading → List (List ℕ) → StreamRead
 read_on R before [] = all_read before
 read_on R before (u ∷ units) = one_more (reads R before u) before (λ after. read_on R after units)
 
--- What follows where none is refused.
+-- What follows if none is refused.
 abbrev pub unless_refused : Option Refusal → List Reading → (List Reading → StreamReading) → StreamReading
 unless_refused None before rest = rest before
 unless_refused (Some r) before rest = stopped before r

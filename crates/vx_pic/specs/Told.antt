@@ -1,4 +1,4 @@
--- What is told of a unit that was read.
+-- The result for a unit that was read. Our own.
 use Rattle.std.specs.Prelude.{cond, List, ◌∷◌}
 use Rattle.vx_pic.specs.declared.accepted.Accepted.{Accepted}
 use Rattle.vx_pic.specs.declared.accepted.Accepted.TheVariants as accepted

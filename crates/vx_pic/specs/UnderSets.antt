@@ -1,4 +1,4 @@
--- What slices are read at, from the picture header and the sets in force. Our own.
+-- What slices are read under, from the picture header and the sets in force. Our own.
 use Rattle.std.specs.Prelude.{ℕ}
 use Rattle.vx_rpl.specs.HeaderLists.{lists_of}
 use Rattle.vx_ph.specs.declared.header.PictureHeader.{PictureHeader}
@@ -8,7 +8,7 @@ use Rattle.vx_pic.specs.Readings.{Begun}
 use Rattle.vx_pic.specs.PictureLayout.{ids_of}
 use Rattle.vx_sh.specs.InForce.{at_sets}
 
--- The picture header, with the lists that its items come to.
+-- The picture header, with the lists that its items determine.
 abbrev pub picture_header_of : Begun → PictureHeader
 picture_header_of b = record { fields = b.header; lists = lists_of (structures b.sps) (in_force b.sps b.pps) b.header }
 

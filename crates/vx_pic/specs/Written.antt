@@ -50,8 +50,8 @@ pub record SeiUnit : Type 0 where
 
 -- ---- plans
 
--- A picture that is written: the sets that are sent, the messages where it has any, its header with what is in force, its kind,
--- and its slices, of which there is one at least.
+-- A picture that is written: the sets that are sent, the messages if it has any, its header with what is in force, its kind, and
+-- its slices, at least one.
 pub record Plan : Type 0 where
   pub sent : List SetUnit
   pub sei : Option SeiUnit
@@ -71,7 +71,7 @@ messages_sent (Some s) = s.messages
 abbrev pub eos_unit : List ℕ
 eos_unit = 0 ∷ 169 ∷ []
 
--- Where one is marked (our own).
+-- If one is marked (our own).
 abbrev pub eos_units : Bool → List (List ℕ)
 eos_units after_eos = cond after_eos (eos_unit ∷ []) []
 
@@ -80,7 +80,7 @@ abbrev pub sei_units : Option SeiUnit → List (List ℕ)
 sei_units None = []
 sei_units (Some s) = s.unit ∷ []
 
--- Its units: an end of sequence where one is marked, the sets, the messages, the PH unit where it has one, and the slices.
+-- Its units: an end of sequence if one is marked, the sets, the messages, the PH unit if it has one, and the slices.
 abbrev pub units_of : Plan → List (List ℕ)
 units_of p =
     eos_units p.kind.after_eos
@@ -131,7 +131,7 @@ planned before p = record { begun = p.begun; kind = p.kind; before = before_slic
 
 -- ---- what is asked of a plan
 
--- A stream can go on here: no picture lacks a slice, and nothing came since the last slice.
+-- A stream can go on here: no picture lacks a slice, and no unit came since the last slice.
 pub record Rests (before : List Reading) : Type 0 where
   pub closed : is_open (current before) ≡ false
   pub goes_on : is_ended before ≡ false
@@ -143,7 +143,7 @@ pub record IsPlain (u : List ℕ) (c : Class) : Type 0 where
   pub layer : nuh_layer_id u ≡ 0
   pub class : class_of (nal_unit_type u) ≡ c
 
--- The slices stand in the picture's order, from this place on.
+-- The slices are in the picture's order, from this place on.
 abbrev pub AreInOrder : Begun → ℕ → List Slice → Type 0
 AreInOrder b n [] = Unit {0}
 AreInOrder b n (s ∷ more) = (slices_before b.layout s.header ≡ n) × AreInOrder b (n + 1) more
@@ -209,6 +209,6 @@ module _ (R : Readers) where
     pub messages : messages_of (planned before p) ≡ messages_sent p.sei
     pub rests : Rests (readings_after before (readings_of p))
 
-  -- A plan that is written where a stream can go on is read again.
+  -- If a plan is written where a stream can go on, then it is read again.
   abbrev pub PlanReadsAgain : Type 0
   PlanReadsAgain = (before : List Reading) (p : Plan) → Rests before → IsWritten before p → ReadsAgain before p

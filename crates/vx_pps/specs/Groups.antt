@@ -9,7 +9,7 @@ use Rattle.vx_layout.specs.Shapes.{AreListable}
 use Rattle.vx_pps.specs.declared.tiles.Tiles.{Tiles}
 use Rattle.vx_pps.specs.Tiles.{IsGrid, across, block, column, down, row, tile, tile_behind}
 
--- One slice of so many tiles across and down from a tile on, or the slices of a tile, of these heights (our own).
+-- One slice of a number of tiles across and down from a tile on, or the slices of a tile, with these heights (our own).
 pub data Group : Type 0 where
   whole : ℕ → ℕ → ℕ → Group
   cut : ℕ → List ℕ → Group
@@ -47,12 +47,12 @@ abbrev pub Lies : Tiles → Group → Type 0
 Lies g (whole t wide high) = (1 ≤ wide) × (1 ≤ high) × (column g t + wide ≤ across g) × (row g t + high ≤ down g)
 Lies g (cut t heights) = (2 ≤ length heights) × All (λ h. 1 ≤ h) heights × (sum heights ≡ (tile g t).h)
 
--- Whether pps_slice_height_in_tiles_minus1 can be spelled of a slice that begins at tile t: where tile indices are, or in the
--- first column; elsewhere the slice has the height of the one before (7.3.2.5).
+-- Whether pps_slice_height_in_tiles_minus1 is coded for a slice that begins at tile t: if tile indices are, or in the first
+-- column. Elsewhere the slice has the height of the one before (7.3.2.5).
 abbrev pub spells_height : Tiles → Bool → ℕ → Bool
 spells_height g deltas t = deltas || column g t == 0
 
--- The group begins at a tile and lies in the picture; where its height isn't spelled, it has the one before's, less 1, but in
+-- The group begins at a tile and lies in the picture; if its height isn't coded, it has that of the one before, less 1, except in
 -- the last row (7.3.2.5, 7.4.3.5).
 pub record GroupStands (g : Tiles) (deltas : Bool) (before : ℕ) (group : Group) : Type 0 where
   pub inside : first_tile_of group < across g * down g
@@ -64,7 +64,7 @@ abbrev pub Ends : Tiles → Group → Type 0
 Ends g (whole t wide high) = (column g t + wide ≡ across g) × (row g t + high ≡ down g)
 Ends g (cut t heights) = Unit {0}
 
--- Groups that can be listed after a slice that is so high, less 1: each stands where the list leads, and the last one ends the
+-- Groups that can be listed after a slice with this height, less 1: each is where the list leads, and the last one ends the
 -- picture (7.3.2.5, 7.4.3.5).
 abbrev pub Follow : Tiles → Bool → ℕ → List Group → Type 0
 Follow g deltas before [] = ⊥

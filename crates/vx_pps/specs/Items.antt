@@ -1,9 +1,9 @@
--- What items are to a form: the values that they give its fields, and where these lead. Our own.
+-- How items are applied to a form: the values that they give its fields, and where these lead. Our own.
 use Rattle.std.specs.Prelude.{ℤ, pos, Bool, true, false, List, [], ◌∷◌, Option, Some, None}
 use Rattle.vx_bits.specs.declared.list.Item.{Item}
 use Rattle.vx_table.specs.Forms.{Form, done, field, has_value}
 
--- A field takes the next item, and goes on with its value; a gap takes none, and its value is 0.
+-- A field takes the next item, and its value decides how the form goes on; a gap takes none, and its value is 0.
 abbrev pub with_next : Bool → (ℤ → List Item → List ℤ) → List Item → List ℤ
 with_next true on [] = []
 with_next true on (item ∷ items) = on item.value items

@@ -41,15 +41,16 @@ ctu_size = fixed_form pps.pps_log2_ctu_size_minus5 2 (below 3)
 abbrev pub most_ctus : ℕ
 most_ctus = 512
 
--- The CTUs across or down, of so many samples (PicWidthInCtbsY, PicHeightInCtbsY, 7.4.3.5).
+-- The CTUs across or down, for a number of samples (PicWidthInCtbsY, PicHeightInCtbsY, 7.4.3.5).
 abbrev pub ctus_across : ℕ → ℕ → ℕ
 ctus_across samples log2 = min (div_ceil samples (2 ^ (log2 + 5))) most_ctus
 
--- The explicit sizes of tile columns or rows, so many, where there are so many CTUs (7.3.2.5).
+-- The explicit sizes of tile columns or rows, by their number and the number of CTUs (7.3.2.5).
 unfoldable pub sizes_of : ℕ → ℕ → ℕ → Form (List ℕ)
 sizes_of of count total = sizes_from of count total []
 
--- The tiles of these explicit sizes, in a picture of so many CTUs across and down (TileColBdVal, TileRowBdVal, 6.5.1).
+-- The tiles with these explicit sizes, in a picture with these numbers of CTUs across and down (TileColBdVal, TileRowBdVal,
+-- 6.5.1).
 abbrev pub tiles_of : List ℕ → ℕ → List ℕ → ℕ → Tiles
 tiles_of widths columns heights rows = record { columns = bounds_of widths columns; rows = bounds_of heights rows }
 
@@ -79,8 +80,8 @@ last_slice = golomb_form pps.pps_num_slices_in_pic_minus1 (Below 1000 (Limit TOO
 unfoldable pub deltas_flag : ℕ → Form ℕ
 deltas_flag last = cond (nat_lt 1 last) (flag pps.pps_tile_idx_delta_present_flag) (done 0)
 
--- pps_loop_filter_across_slices_enabled_flag, where there are several slices; after a list that leads out of the tiles it has
--- no value (7.3.2.5).
+-- pps_loop_filter_across_slices_enabled_flag, if there are several slices; after a list that extends past the tiles it has no
+-- value (7.3.2.5).
 unfoldable pub across_flag : ℕ → Bool → Form ℕ
 across_flag last inside =
     cond (last == 0) (done 0)
@@ -95,7 +96,7 @@ listed_slices g = do
   across ← across_flag last (is_some slices)
   done slices
 
--- No list, where each subpicture is a slice (pps_single_slice_per_subpic_flag, 7.4.3.5).
+-- No list, if each subpicture is a slice (pps_single_slice_per_subpic_flag, 7.4.3.5).
 unfoldable pub subpicture_slices : Form (Option (List Rect))
 subpicture_slices = flag pps.pps_loop_filter_across_slices_enabled_flag >>= λ across. done None
 
@@ -105,7 +106,7 @@ slices_among g single = cond (is_set single) subpicture_slices (listed_slices g)
 
 -- ---- both (7.3.2.5)
 
--- Tiles and slices of a picture of so many luma samples across and down (7.3.2.5).
+-- Tiles and slices of a picture with these numbers of luma samples across and down (7.3.2.5).
 unfoldable pub divided : ℕ → ℕ → Form Partition
 divided width height = do
   log2 ← ctu_size
@@ -115,7 +116,7 @@ divided width height = do
   slices ← slices_among tiles single
   done (record { tiles = tiles; slices = slices })
 
--- Nothing is told of a picture that isn't partitioned: it has one tile and one slice (pps_no_pic_partition_flag, 7.4.3.5).
+-- Nothing is coded for a picture that isn't partitioned: it has one tile and one slice (pps_no_pic_partition_flag, 7.4.3.5).
 abbrev pub no_tiles : Tiles
 no_tiles = record { columns = []; rows = [] }
 

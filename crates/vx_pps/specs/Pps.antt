@@ -1,4 +1,4 @@
--- A picture parameter set: its form, and what its items tell (H.266 7.3.2.5, 7.4.3.5).
+-- A picture parameter set: its form, and what its items say (H.266 7.3.2.5, 7.4.3.5).
 use Rattle.std.specs.Prelude.{◌≡◌, ℕ, not, Bool, List, [], ◌∷◌, ◌++◌, Option, Some, None, Result, Ok, Err, slice_index}
 use Rattle.vx_bits.specs.declared.list.Item.{Item}
 use Rattle.vx_bits.specs.declared.refusal.ReadError.{ReadError}
@@ -28,7 +28,7 @@ use Rattle.vx_pps.specs.Written.{Gives}
 abbrev pub before_tiles : List Section
 before_tiles = always tables.IDS ∷ always tables.NAL_TYPES ∷ always tables.SIZE ∷ always tables.OUTPUT ∷ always tables.SUBPIC_IDS ∷ []
 
--- After them: the tools of slices, what stands in picture headers, and the end (7.3.2.5).
+-- After them: the tools of slices, what is in picture headers, and the end (7.3.2.5).
 abbrev pub after_slices : List Section
 after_slices = always tables.PREDICTION ∷ always tables.INIT_QP ∷ always tables.QP_OFFSETS ∷ always tables.DBF_CONTROL
     ∷ always tables.DBF_INFO ∷ always tables.DBF_OFFSETS ∷ always tables.HEADER_INFO ∷ always tables.END ∷ []
@@ -39,7 +39,7 @@ partition_at s =
     partition (slice_index s pps.pps_no_pic_partition_flag) (slice_index s pps.pps_pic_width_in_luma_samples)
     (slice_index s pps.pps_pic_height_in_luma_samples)
 
--- pic_parameter_set_rbsp(), at whose end stand its tiles and slices (7.3.2.5).
+-- pic_parameter_set_rbsp(), at whose end are its tiles and slices (7.3.2.5).
 unfoldable pub pps_form : Form Partition
 pps_form = do
   s ← sections_form before_tiles fresh
@@ -47,7 +47,7 @@ pps_form = do
   t ← sections_form after_slices s
   done p
 
--- What a reader of its fields answers that appends their items to these. Nothing is said of them where memory runs out.
+-- The answer of a reader of its fields that appends their items to these. They are unspecified if memory runs out.
 abbrev pub ReadsFields : List ℕ → List Item → Result (Unit {0}) ReadError → List Item → Type 0
 ReadsFields rbsp items (Ok u) after = (new : Place) × Reads pps_form (at_front rbsp) items (Ok u) new after
 ReadsFields rbsp items (Err errors.Memory) after = Unit {0}
@@ -87,16 +87,15 @@ tile_rows_of items = (partition_of items).tiles.rows
 abbrev pub slice_list_of : List Item → Option (List Rect)
 slice_list_of items = (partition_of items).slices
 
--- The active entries of list 0 and of list 1 where a slice says nothing, less 1 (pps_num_ref_idx_default_active_minus1,
--- 7.4.3.5).
+-- The default numbers of active entries of list 0 and of list 1, less 1 (pps_num_ref_idx_default_active_minus1, 7.4.3.5).
 abbrev pub default_active : List Item → ℕ → ℕ
 default_active items list = slice_index (numbers_of items pps.pps_num_ref_idx_default_active_minus1) list
 
--- The kept fields: those without a star; no field of the tiles and slices, which stand in no table, is one (our own).
+-- The kept fields: those without a star; no field of the tiles and slices, which are in no table, is one (our own).
 abbrev pub kept_pps_fields : List ℕ
 kept_pps_fields = unstarred (before_tiles ++ after_slices)
 
--- The items of its kept fields; those that say what stands in picture headers, also where they are absent, as 0 (our own).
+-- The items of its kept fields; those that say what is in picture headers are included even if they are absent, as 0 (our own).
 abbrev pub kept_pps_items : List Item → List Item
 kept_pps_items items = kept_along pps_form (values_in pps_form items)
 

@@ -29,15 +29,15 @@ use Rattle.vx_table.specs.Rewritten.{where_so}
 
 -- ---- what is stated, in the order of the syntax (7.3.2.5; what is stated is our own choice)
 
--- An item with the number that the source's last one gives the field: 0 where it has none (our own).
+-- An item with the number that the source's last one gives the field: 0 if it has none (our own).
 abbrev pub items_of_source : List Item → ℕ → List Item
 items_of_source source of = only_item of (pos (number source of))
 
--- pps_no_pic_partition_flag: a frame is partitioned, and a region where its source is (7.3.2.5).
+-- pps_no_pic_partition_flag: a frame is partitioned, and a region if its source is (7.3.2.5).
 abbrev pub whole_flag : List Item → PpsShape → ℕ
 whole_flag source shape = cond shape.merged 0 (number source pps.pps_no_pic_partition_flag)
 
--- The id of the one subpicture, where this set has it (7.3.2.5).
+-- The id of the one subpicture, if this set has it (7.3.2.5).
 abbrev pub pps_subpic_id_items : ℕ → Option (ℕ × ℕ) → List Item
 pps_subpic_id_items whole None = only_item pps.pps_subpic_id_mapping_present_flag (pos 0)
 pps_subpic_id_items whole (Some (bits, id)) =
@@ -61,7 +61,7 @@ abbrev pub tile_flag_items : PpsShape → List Item
 tile_flag_items shape = where_so (nat_lt 1 (across shape.tiles * down shape.tiles))
     (only_item pps.pps_loop_filter_across_tiles_enabled_flag (pos (one_if shape.across_tiles)) ++ only_item pps.pps_rect_slice_flag (pos 1))
 
--- Tile indices are spelled of three slices and more (our own).
+-- Tile indices are coded for three slices and more (our own).
 abbrev pub has_deltas : PpsShape → Bool
 has_deltas shape = nat_lt 2 (length shape.slices)
 
@@ -100,8 +100,8 @@ abbrev pub IsDivision : Bool → PpsShape → List Item → Type 0
 IsDivision true shape items = items ≡ []
 IsDivision false shape items = Divides shape items
 
--- Of a frame's tools: the QP, and what stands in picture headers, as the source has it, except for the adaptive loop filter and
--- the QP, which stand in slice headers (7.3.2.5).
+-- The new items of a frame's tools: the QP, and what is in picture headers, as in the source, except for the adaptive loop filter
+-- and the QP, which are in slice headers (7.3.2.5).
 abbrev pub has_weights : List Item → Bool
 has_weights source =
     (is_set (number source pps.pps_weighted_pred_flag) || is_set (number source pps.pps_weighted_bipred_flag))
@@ -167,12 +167,12 @@ pub record IsShape (source : List Item) (shape : PpsShape) : Type 0 where
 
 -- ---- the rewritten set (our own)
 
--- The fields that are copied for a region: the kept fields, the QP, and where filter and QP stand; and the gap at the end.
+-- The fields that are copied for a region: the kept fields, the QP, and where filter and QP are; and the gap at the end.
 abbrev pub taken_for_region : List ℕ
 taken_for_region = pps.pps_init_qp_minus26 ∷ pps.pps_alf_info_in_ph_flag ∷ pps.pps_qp_delta_info_in_ph_flag ∷ pps.pps_rbsp_trailing_bits
     ∷ kept_pps_fields
 
--- For a frame: the kept fields, except for those that say what stands in picture headers; and this gap.
+-- For a frame: the kept fields, except for those that say what is in picture headers; and this gap.
 abbrev pub tools_for_frame : List Section
 tools_for_frame = always tables.PREDICTION ∷ always tables.QP_OFFSETS ∷ always tables.DBF_CONTROL ∷ always tables.DBF_OFFSETS
     ∷ always tables.END ∷ []
@@ -211,13 +211,13 @@ FrameKeeps =
 
 -- ---- what it says
 
--- The id of its one subpicture, in so many bits, less 1.
+-- The id of its one subpicture, with this number of bits, less 1.
 pub record MapsId (bits id : ℕ) (items : List Item) : Type 0 where
   pub mapped : number items pps.pps_subpic_id_mapping_present_flag ≡ 1
   pub id_len : number items pps.pps_subpic_id_len_minus1 ≡ bits
   pub ids : numbers_of items pps.pps_subpic_id ≡ id ∷ []
 
--- Of a picture that is partitioned, the size of CTUs, and whether loop filters cross the borders of tiles and of slices, where
+-- For a picture that is partitioned, the size of CTUs, and whether loop filters cross the borders of tiles and of slices, if
 -- there are several.
 pub record TellsDivision (shape : PpsShape) (items : List Item) : Type 0 where
   pub ctb : (log2 : ℕ) → log2 < 3 → shape.ctb ≡ 2 ^ (log2 + 5) → number items pps.pps_log2_ctu_size_minus5 ≡ log2
@@ -226,8 +226,8 @@ pub record TellsDivision (shape : PpsShape) (items : List Item) : Type 0 where
   pub across_slices : 1 < length shape.slices
       → number items pps.pps_loop_filter_across_slices_enabled_flag ≡ one_if shape.across_slices
 
--- It says what the shape says: its ids, its size, whether it is partitioned, the id of its one subpicture where that stands here, and
--- the QP of a frame.
+-- It has what the shape says: its ids, its size, whether it is partitioned, the id of its one subpicture if that is here, and the
+-- QP of a frame.
 pub record TellsPpsShape (source : List Item) (shape : PpsShape) (items : List Item) : Type 0 where
   pub id : number items pps.pps_pic_parameter_set_id ≡ shape.id
   pub sps_id : number items pps.pps_seq_parameter_set_id ≡ shape.sps_id

@@ -19,7 +19,7 @@ column g t = t % across g
 abbrev pub row : Tiles → ℕ → ℕ
 row g t = t / across g
 
--- So many tiles across and down from tile t on, as a rectangle of CTUs (our own).
+-- A number of tiles across and down from tile t on, as a rectangle of CTUs (our own).
 abbrev pub block : Tiles → ℕ → ℕ → ℕ → Rect
 block g t wide high = record {
   x = slice_index g.columns (column g t);
@@ -32,8 +32,8 @@ block g t wide high = record {
 abbrev pub tile : Tiles → ℕ → Rect
 tile g t = block g t 1 1
 
--- The tile where the slice after one of so many tiles across and down, less 1 each, begins, where it isn't spelled: the one
--- beside the slice, or at the end of the columns the first one below it (6.5.1, SliceTopLeftTileIdx).
+-- The tile at which the next slice begins if its index isn't coded, after a slice with these numbers of tiles across and down,
+-- less 1 each: the one to its right, or after the last column the first one below it (6.5.1, SliceTopLeftTileIdx).
 abbrev pub tile_behind : Tiles → ℕ → ℕ → ℕ → ℕ
 tile_behind g t width height = t + (width + 1) + cond ((t + (width + 1)) % across g == 0) (height * across g) 0
 

@@ -1,4 +1,4 @@
--- What is written of tile sizes, and of groups of slices: the items of their fields, in the order of H.266 7.3.2.5.
+-- How tile sizes and groups of slices are written: the items of their fields, in the order of H.266 7.3.2.5.
 use Rattle.std.specs.Prelude.{◌≡◌, ◌==◌, ℕ, ℤ, pos, ◌+◌, ◌-◌, Bool, false, cond, List, [], ◌∷◌, ◌++◌, length}
 use Rattle.std.specs.Prelude.{neg_ℤ, ◌+ℤ◌}
 use Rattle.vx_bits.specs.declared.list.Item.{Item}
@@ -50,7 +50,7 @@ turn_items g deltas spelled group next =
     width_items g (first_tile_of group) (wide_of group)
     ++ (height_items g deltas (first_tile_of group) (high_of group) ++ (heights_items g group ++ delta_items spelled (first_tile_of group) next))
 
--- The last group: a slice of whole tiles isn't spelled (7.3.2.5).
+-- The last group: a slice of whole tiles isn't coded (7.3.2.5).
 abbrev pub last_items : Tiles → Bool → Group → List Item
 last_items g deltas (whole t wide high) = []
 last_items g deltas (cut t heights) = turn_items g deltas false (cut t heights) 0

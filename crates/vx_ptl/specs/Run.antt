@@ -21,7 +21,8 @@ fixed_coding Golomb = Some Golomb
 fixed_coding SignedGolomb = Some SignedGolomb
 fixed_coding coding = None
 
--- The zeros up to a byte boundary that stand last before a row of a table, by the field that they are reported under; 0 where none do.
+-- The zeros up to a byte boundary that come last before a row of a table, by the field as which they are reported; 0 if there are
+-- none.
 abbrev pub zeros_over : ℕ → Coding Formula → ℕ → ℕ
 zeros_over before Zeros field = field
 zeros_over before coding field = before
@@ -52,7 +53,7 @@ field_codes = codes_of 0 SUBLAYER_TIMING (codes_of 0 TIMING (codes_of 0 DPB (cod
 abbrev pub field_code : ℕ → FieldCode
 field_code field = slice_index_or field_codes field no_code
 
--- After an item of a field that stands before these zeros, they come: the numbers of fields rise along a table.
+-- They come after an item of a field that precedes these zeros: the numbers of fields rise along a table.
 abbrev pub zeros_behind : ℕ → ℕ → ℕ → List Bool
 zeros_behind before over place = cond (nat_lt before over) (zeros_from place) []
 
@@ -80,7 +81,7 @@ run_bits before place [] = []
 run_bits before place (item ∷ items) =
     item_bits before place item ++ run_bits item.field (place + length (item_bits before place item)) items
 
--- The bits grow by a front of these: by none, some or all of them.
+-- The bits grow by a prefix of these: by none, some or all of them.
 abbrev pub GrowsByFront : List Bool → List Bool → List Bool → Type 0
 GrowsByFront old new bits = (n : ℕ) × (new ≡ old ++ take n bits)
 

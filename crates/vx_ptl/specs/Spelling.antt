@@ -1,4 +1,4 @@
--- What items of whole structures spell, one structure after another.
+-- How items of whole structures are spelled, one structure after another.
 use Rattle.std.specs.Prelude.{◌≡◌, ℕ, ℤ, ◌-◌, ◌+◌, ◌≤◌, Bool, List, [], ◌++◌, length, All}
 use Rattle.vx_bits.specs.declared.list.Item.{Item}
 use Rattle.vx_table.specs.Forms.{Form, form_of}
@@ -25,7 +25,7 @@ pub data SpellStructures : ℕ → List Item → List Bool → Type 0 where
 abbrev pub AreWritten : ℕ → List Item → List Bool → Type 0
 AreWritten place items bits = All IsRunItem items × ((before : ℕ) → run_bits before place items ≡ bits)
 
--- Where the items are those of structures, what is appended is their spelling.
+-- If the items are those of structures, then what is appended is their spelling.
 abbrev pub AppendsSpelling : List Bool → List Item → List Bool → Type 0
 AppendsSpelling old items new = (bits : List Bool) → SpellStructures (length old) items bits → new ≡ old ++ bits
 
@@ -38,8 +38,7 @@ StructuresAreSpelled = (form : Form (List ℕ)) (values : List ℤ) (scope : Lis
 abbrev pub RunsAreSpelled : Type 0
 RunsAreSpelled = (place : ℕ) (items : List Item) (bits : List Bool) → SpellStructures place items bits → AreWritten place items bits
 
--- From the bits that are left, of so many in all, up to the rest, structures were read one after another, and these are their
--- items.
+-- From the bits that are left, out of `total`, up to the rest, structures were read one after another, and these are their items.
 pub data ReadStructures (total : ℕ) : List Bool → List Item → List Bool → Type 0 where
   all_read : {rest : List Bool} → ReadStructures total rest [] rest
   one_read : {form : Form (List ℕ)} {values : List ℤ} {items : List Item} {left mid rest : List Bool}

@@ -11,7 +11,7 @@ use Rattle.vx_ptl.specs.declared.tables.TheConstants.{VPS, PTL, DPB, TIMING, SUB
 abbrev pub sublayers : List ℕ → ℕ → ℕ → Bool → List ℕ
 sublayers scope max field each = slice_set (slice_set scope sps_max_sublayers_minus1 max) field (one_if each)
 
--- The front of a VPS (H.266 clause 7.3.2.3).
+-- The first fields of a VPS (H.266 clause 7.3.2.3).
 abbrev pub vps : Form (List ℕ)
 vps = form_of VPS fresh
 

@@ -1,4 +1,4 @@
--- What lists, structures and weights read of the scope and leave in it, and which items tell the lists. Our own.
+-- What lists, structures and weights depend on and leave in the scope, and which items determine the lists. Our own.
 use Rattle.std.specs.Prelude.{◌≡◌, ℕ, zero, suc, ◌+◌, Bool, true, ◌&&◌, not, IsTrue, List, [], ◌∷◌, ◌++◌}
 use Rattle.vx_bits.specs.declared.list.Item.{Item}
 use Rattle.vx_table.specs.declared.rows.Row.{Row}
@@ -60,7 +60,7 @@ at_choice shown known = grown shown (grown shown known IS_LIST_0) NUM_STRUCTURES
 abbrev pub at_structure : List ℕ → List ℕ → List ℕ
 at_structure shown known = behind_table shown (at_choice shown known) CHOICE
 
--- Where the list takes a structure of the SPS, that it does and which one is known.
+-- If the list takes a structure of the SPS, then this and which one it is are known.
 unfoldable pub list_chains : List ℕ → List ℕ → Bool
 list_chains shown known = table_depends shown (at_choice shown known) CHOICE
     && ((has (at_structure shown known) rpl_sps_flag && has (at_structure shown known) rpl_idx)
@@ -106,7 +106,7 @@ ListsShow = (table : RplTable) (shown : List ℕ) → lists_pass (shows_row show
 abbrev pub ListsKeep : Type 0
 ListsKeep = (table : RplTable) (shown s : List ℕ) → lists_pass (star_tells shown) ≡ true → KeepsShown shown (lists_form table s)
 
--- Names that the lists leave alone.
+-- Names that the lists leave unchanged.
 abbrev pub lists_hide : List ℕ → Bool
 lists_hide names = hides names BEFORE_LIST_0
     && (hides names CHOICE
@@ -123,12 +123,12 @@ ListsLeave = (table : RplTable) (names : List ℕ) → lists_hide names ≡ true
 
 -- ---- which items tell the lists
 
--- The set has so many fields from this one on.
+-- The set has this number of fields from this one on.
 abbrev pub has_run : List ℕ → ℕ → ℕ → Bool
 has_run names of zero = true
 has_run names of (suc more) = has names of && has_run names (of + 1) more
 
--- The same items of their fields, at scopes that agree on what they read, come to the same lists.
+-- The same items of their fields, at scopes that agree on what they depend on, determine the same lists.
 abbrev pub ListsFollowItems : Type 0
 ListsFollowItems = (table : RplTable) (known s t names : List ℕ) (items others : List Item) → Agree known s t
     → IsTrue (has known sps_weighted_pred_flag) → IsTrue (has known sps_weighted_bipred_flag)

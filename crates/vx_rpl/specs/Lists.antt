@@ -30,7 +30,7 @@ behind_structure (Some structure) s =
     (slice_set (slice_set s num_ref_entries (length structure.entries)) ltrp_in_header_flag (one_if structure.in_header))
     LONG_ENTRIES (count_by is_long structure.entries)
 
--- Where rpl_sps_flag is 1, the structure at rpl_idx (RplsIdx, 7.4.10).
+-- If rpl_sps_flag is 1, the structure at rpl_idx (RplsIdx, 7.4.10).
 unfoldable pub picked : List Structure → List ℕ → List ℕ
 picked structures s = cond (slice_index s rpl_sps_flag == 0) s (behind_structure (slice_get structures (slice_index s rpl_idx)) s)
 
@@ -40,7 +40,7 @@ picked structures s = cond (slice_index s rpl_sps_flag == 0) s (behind_structure
 unfoldable pub begun : Bool → List Structure → List ℕ → List ℕ
 begun is_list_0 structures s = slice_set (slice_set s IS_LIST_0 (one_if is_list_0)) NUM_STRUCTURES (length structures)
 
--- The list's own structure, where it takes none from the SPS, and what the header tells of long-term entries (7.3.9).
+-- The list's own structure, if it takes none from the SPS, and the header's fields for long-term entries (7.3.9).
 abbrev pub own_and_long_term : List Section
 own_and_long_term = provided (Equal (Latest rpl_sps_flag) (Number 0)) REF_PIC_LIST_STRUCT ∷ always LONG_TERM ∷ []
 

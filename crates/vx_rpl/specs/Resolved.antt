@@ -1,4 +1,4 @@
--- What the items of reference picture list structures come to: entries with their numbers (H.266 7.4.11).
+-- What the items of reference picture list structures determine: entries with their numbers (H.266 7.4.11).
 use Rattle.std.specs.Prelude.{ℕ, ◌+◌, Bool, cond, ◌&&◌, ◌||◌, ◌==◌, nat_le, nat_lt, Option, None, Some, List, [], ◌∷◌, take, filter}
 use Rattle.vx_bits.specs.declared.list.Item.{Item}
 use Rattle.vx_table.specs.Scope.{natural, capped, is_set}
@@ -12,12 +12,12 @@ use Rattle.vx_rpl.specs.declared.entry.RplTable.{RplTable}
 
 -- ---- items by their fields (our own)
 
--- The number that stands next, where it is one of this field; else 0.
+-- The next number, if it is one of this field; otherwise 0.
 abbrev pub next_number : ℕ → List Item → ℕ
 next_number of [] = 0
 next_number of (item ∷ items) = cond (item.field == of) (natural item.value) 0
 
--- What follows the first number of a field, where there is one.
+-- What follows the first number of a field, if there is one.
 abbrev pub past : ℕ → List Item → Option (List Item)
 past of [] = None
 past of (item ∷ items) = cond (item.field == of) (Some items) (past of items)
@@ -71,7 +71,7 @@ abbrev pub structures_behind : Bool → Option (List Item) → List Structure
 structures_behind weighted None = []
 structures_behind weighted (Some items) = take 64 (structures_from weighted items)
 
--- List 0's structures stand after the first sps_num_ref_pic_lists, at most 64 (7.3.2.4).
+-- List 0's structures come after the first sps_num_ref_pic_lists, at most 64 (7.3.2.4).
 abbrev pub list_0_structures : Bool → List Item → List Structure
 list_0_structures weighted items = structures_behind weighted (past sps_num_ref_pic_lists items)
 
@@ -79,7 +79,7 @@ abbrev pub behind_second : Option (List Item) → Option (List Item)
 behind_second None = None
 behind_second (Some items) = past sps_num_ref_pic_lists items
 
--- List 1's stand after the second; where there is none, they are list 0's (sps_rpl1_same_as_rpl0_flag, 7.4.3.4).
+-- List 1's come after the second; if there is none, they are list 0's (sps_rpl1_same_as_rpl0_flag, 7.4.3.4).
 abbrev pub second_or_first : Bool → List Item → Option (List Item) → List Structure
 second_or_first weighted items None = list_0_structures weighted items
 second_or_first weighted items (Some others) = structures_behind weighted (Some others)
@@ -90,7 +90,7 @@ second_of weighted items = second_or_first weighted items (behind_second (past s
 abbrev pub both_of : Bool → List Item → RplTable
 both_of weighted items = record { first = list_0_structures weighted items; second = second_of weighted items }
 
--- They are told by the items of structures and of their numbers, whatever others stand beside them (our own).
+-- They depend only on the items of structures and of their numbers, whatever other items are among them (our own).
 abbrev pub is_of_table : Item → Bool
 is_of_table item = item.field == sps_num_ref_pic_lists || (nat_le num_ref_entries item.field && nat_le item.field rpls_poc_lsb_lt)
 

@@ -1,4 +1,4 @@
--- What a writer of the items of one value answers, all of which it takes.
+-- The answer of a writer of the items of one value, all of which it takes.
 use Rattle.std.specs.Prelude.{◌≡◌, ℕ, ℤ, ◌==◌, Bool, false, List, [], ◌∷◌, ◌++◌, length, OnOk, Result, Ok, Err}
 use Rattle.vx_bits.specs.declared.list.Item.{Item}
 use Rattle.vx_table.specs.declared.writer.SpellError.{SpellError}
@@ -27,14 +27,14 @@ pub record WritesAll {A : Type 0} (form : Form A) (old : List Bool) (items : Lis
   -- and the bits that there were stay.
   pub gained : (more : List Bool) × (new ≡ old ++ more)
 
--- What comes of what was written where these items are left.
+-- The result of writing if these items are left.
 abbrev pub all_taken : Result (Unit {0}) SpellError → List Item → Result (Unit {0}) SpellError
 all_taken (Ok u) [] = Ok u
 all_taken (Ok u) (item ∷ left) = Err NoValue
 all_taken (Err e) left = Err e
 
--- A structure is spelled alike in an SPS and in a header, except for ltrp_in_header_flag, which an SPS alone spells: so it is
--- one of an SPS where that stands after its number of entries.
+-- A structure is spelled alike in an SPS and in a header, except for ltrp_in_header_flag, which only an SPS has. So it is one of
+-- an SPS if that flag comes after its number of entries.
 abbrev pub is_second : ℕ → List Item → Bool
 is_second of (first ∷ second ∷ items) = second.field == of
 is_second of items = false
@@ -49,7 +49,7 @@ pub record GoAlike (form other : Form (List ℕ)) (values : List ℤ) : Type 0 w
   pub items : items_along other values ≡ items_along form values
   pub bits : (place : ℕ) → bits_along other place values ≡ bits_along form place values
 
--- So the items of a structure are written as the structure wherever it stands, of whatever index and count.
+-- So the items of a structure are written as the structure wherever it is, with any index and count.
 abbrev pub structure_at : RplNumbers → ℕ → ℕ → Form (List ℕ)
 structure_at numbers index count = form_of REF_PIC_LIST_STRUCT (structure_scope numbers index count)
 

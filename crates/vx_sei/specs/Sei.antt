@@ -10,7 +10,7 @@ ff_coded n = replicate (n / 255) 255 ++ n % 255 ∷ []
 abbrev pub sei_message : Message → List ℕ
 sei_message m = ff_coded m.kind ++ ff_coded (length m.bytes) ++ m.bytes
 
--- Messages as they are spelled, one after another (7.3.2.9).
+-- Coded messages, one after another (7.3.2.9).
 abbrev pub sei_messages : List Message → List ℕ
 sei_messages ms = flat_map sei_message ms
 
@@ -19,8 +19,8 @@ pub record IsSei (rbsp : List ℕ) (ms : List Message) : Type 0 where
   pub some : 0 < length ms
   pub bytes : rbsp ≡ sei_messages ms ++ 128 ∷ []
 
--- Mastering display colour volume, content light level, and alternative transfer characteristics (their types stand in D.2;
--- that these are carried is our own choice).
+-- Mastering display colour volume, content light level, and alternative transfer characteristics (their types are in D.2; that
+-- these are copied is our own choice).
 abbrev pub is_carried : ℕ → Bool
 is_carried kind = kind == 137 || (kind == 144 || kind == 147)
 
@@ -32,7 +32,7 @@ carried ms = filter (λ m. is_carried m.kind) ms
 abbrev pub spelled_length : List Message → ℕ
 spelled_length ms = length (sei_messages ms)
 
--- What an RBSP carries: nothing where it is no SEI RBSP (7.3.2.9).
+-- The messages that are copied from an RBSP: none if it is no SEI RBSP (7.3.2.9).
 abbrev pub Carries : List ℕ → List Message → Type 0
 Carries rbsp ms =
     ((all : List Message) × IsSei rbsp all × (ms ≡ carried all))

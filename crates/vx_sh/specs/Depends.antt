@@ -1,4 +1,5 @@
--- What the fields of a slice header after the id of its subpicture depend on. Our own.
+-- What the fields of a slice header after the id of its subpicture depend on. Our own. Mergers and readers of merged streams rely
+-- on it.
 use Rattle.std.specs.Prelude.{ℕ, not, List, [], ◌∷◌, ◌++◌, filter}
 use Rattle.vx_table.specs.Depends.{has, DependsOnlyOn}
 use Rattle.vx_table.specs.laws.Again.{AlwaysShown}
@@ -44,16 +45,15 @@ of_pps = pps.pps_cabac_init_present_flag ∷ pps.pps_rpl1_idx_present_flag ∷ p
 abbrev pub kept_of_ph : List ℕ
 kept_of_ph = ph.ph_inter_slice_allowed_flag ∷ ph.ph_temporal_mvp_enabled_flag ∷ []
 
--- Numbers beside these: the type of the NAL unit, the slices of the subpicture, how many extra bits the SPS asks for, the two
--- pps_num_ref_idx_default_active_minus1, and the lengths of the picture header's lists.
+-- Numbers in addition to these: the type of the NAL unit, the slices of the subpicture, the number of extra bits of the SPS, the
+-- two pps_num_ref_idx_default_active_minus1, and the lengths of the picture header's lists.
 abbrev pub numbers_beside : List ℕ
 numbers_beside = NAL_TYPE ∷ NUM_SLICES ∷ EXTRA_SH_BITS ∷ DEFAULT_ACTIVE_0 ∷ DEFAULT_ACTIVE_1 ∷ ENTRIES_0 ∷ ENTRIES_1 ∷ []
 
 abbrev pub kept_given : List ℕ
 kept_given = of_sps ++ (of_pps ++ (kept_of_ph ++ numbers_beside))
 
--- Fields with a star: where the filter and the QP stand, what the picture uses of adaptation sets, and whether its header is
--- inside.
+-- Fields with a star: where the filter and the QP are, what the picture uses of adaptation sets, and whether its header is inside.
 abbrev pub starred_given : List ℕ
 starred_given = pps.pps_alf_info_in_ph_flag ∷ pps.pps_qp_delta_info_in_ph_flag ∷ ph.ph_lmcs_enabled_flag
     ∷ ph.ph_explicit_scaling_list_enabled_flag ∷ sh.sh_picture_header_in_slice_header_flag ∷ []
@@ -79,7 +79,7 @@ of_lists = rpl.ALL ++ (weights.ALL ++ names_rpl.ALL)
 abbrev pub all_fields : List ℕ
 all_fields = of_lists ++ (FILTER_SET ∷ alf.ALL ++ (sh.ALL ++ names_sh.ALL))
 
--- Fields with a star, and the names that their rows alone read.
+-- Fields with a star, and the names that only their rows use.
 abbrev pub starred_fields : List ℕ
 starred_fields = FILTER_SET ∷ HAS_ALF ∷ STARRED
 
@@ -89,8 +89,8 @@ kept_with_names = filter (λ n. not (has starred_fields n)) all_fields
 
 -- ---- the law
 
--- The presence, coding and range of each kept field depend on kept fields alone: of the SPS, the PPS, the picture header and the
--- slice header; and on the numbers beside these, and on the entry points by address.
+-- The presence, coding and range of each kept field depend only on kept fields of the SPS, the PPS, the picture header and the
+-- slice header, on the additional numbers, and on the entry points by address.
 abbrev pub KeptDepend : Type 0
 KeptDepend = (table : RplTable) (points : ℕ → ℕ) → DependsOnlyOn kept_given kept_with_names (rest_form table points)
 

@@ -1,5 +1,5 @@
--- The same slice header at another place: under sets, a picture header and a layout that agree on what it depends on, where its
--- subpicture may have another index among others.
+-- The same slice header at another place: under sets, a picture header and a layout that agree on what it depends on. Its
+-- subpicture may have another index among others there.
 use Rattle.std.specs.Prelude.{◌≡◌, ℕ, ◌<◌, Bool, not, List, [], ◌∷◌, filter, length}
 use Rattle.vx_table.specs.Depends.{has, Agree}
 use Rattle.vx_table.specs.Loaded.{number}
@@ -13,7 +13,7 @@ use Rattle.vx_sh.specs.Depends.{all_given}
 use Rattle.vx_sh.specs.Whole.{At, index_of, num_slices_in_subpic, points_at}
 use Rattle.vx_sh.specs.Value.{BeginsSlice}
 
--- What all fields after the id depend on, except for what the slice header itself tells before them,
+-- What all fields after the id depend on, except for what the slice header itself gives before them,
 abbrev pub given_behind : List ℕ
 given_behind = filter (λ n. not (has (NUM_SLICES ∷ sh_picture_header_in_slice_header_flag ∷ []) n)) all_given
 

@@ -1,4 +1,5 @@
--- What a slice header is read and written at, from the sets, the picture header, the layout and the NAL unit's type in force. Our own.
+-- What a slice header is read and written under: the sets, the picture header, the layout and the NAL unit's type in force. Our
+-- own.
 use Rattle.std.specs.Prelude.{◌≡◌, ◌≤◌, ◌<◌, ℕ, IsFalse, List, [], ◌∷◌, All, length, slice_set}
 use Rattle.vx_bits.specs.declared.list.Item.{Item}
 use Rattle.vx_table.specs.Scope.{fresh, loaded, joined}
@@ -16,8 +17,8 @@ use Rattle.vx_ph.specs.InForce.{in_force, structures}
 use Rattle.vx_sh.specs.declared.numbers.SliceNumbers.{SliceNumbers}
 use Rattle.vx_sh.specs.Whole.{At}
 
--- The scope of a slice: the sets' numbers below the first field of a picture header, the header's from there on, and beside these the
--- lengths of its lists, the type of the NAL unit, how many extra bits a slice header has, and the two
+-- The scope of a slice: the sets' numbers below the first field of a picture header, and the header's from there on. In addition
+-- the lengths of its lists, the type of the NAL unit, the number of extra bits of a slice header, and the two
 -- pps_num_ref_idx_default_active_minus1.
 abbrev pub slice_scope : ℕ → List Item → List Item → PictureHeader → List ℕ → List ℕ
 slice_scope nal_type sps pps header sets =
@@ -47,12 +48,12 @@ at_sets nal_type sps pps header ids layout = record {
 abbrev pub in_force_at : SliceNumbers → At
 in_force_at n = at_sets n.nal_type n.sps.now n.pps.now n.header.now n.ids.now n.layout.now
 
--- The names that it has beside fields.
+-- The names that it has in addition to fields.
 abbrev pub beside : List ℕ
 beside = ENTRIES_0 ∷ ENTRIES_1 ∷ NAL_TYPE ∷ EXTRA_SH_BITS ∷ DEFAULT_ACTIVE_0 ∷ DEFAULT_ACTIVE_1 ∷ []
 
--- Sets and picture headers that give each of some fields the same number, each those of its own range, and that have the same numbers
--- beside these, give the slices of one type scopes that agree on these fields; what stands beside may be among them.
+-- If sets and picture headers give each of some fields the same number, each those of its own range, and have the same additional
+-- numbers, then slices of one type have scopes that agree on these fields; the additional names may be among them.
 abbrev pub SliceScopesAgree : Type 0
 SliceScopesAgree = (fields : List ℕ) (nal_type : ℕ) (sps other_sps pps other_pps : List Item) (header other : PictureHeader)
     → All (λ n. n < pps_pic_parameter_set_id → number sps n ≡ number other_sps n) fields

@@ -32,17 +32,17 @@ use Rattle.vx_sh.specs.Whole.{At, index_of, points_at, num_slices_in_subpic}
 
 -- ---- what is stated, in the order of the syntax (7.3.7; what is stated is our own choice)
 
--- The picture header stands apart; the id of the subpicture, where the SPS describes subpictures (7.3.7).
+-- The picture header is a unit of its own; the id of the subpicture, if the SPS describes subpictures (7.3.7).
 abbrev pub sh_subpic_id_items : List Item → ℕ → List Item
 sh_subpic_id_items sps id =
     item sh.sh_picture_header_in_slice_header_flag 0
     ∷ where_so (is_set (number sps sps_fields.sps_subpic_info_present_flag)) (item sh.sh_subpic_id id ∷ [])
 
--- The filter, where the SPS has it (7.3.7).
+-- The filter, if the SPS has it (7.3.7).
 abbrev pub stated_filter_items : List Item → List Item → List Item
 stated_filter_items sps filter = where_so (is_set (number sps sps_fields.sps_alf_enabled_flag)) filter
 
--- What is used of LMCS and scaling lists, where the picture header has them on (7.3.7).
+-- What is used of LMCS and scaling lists, if the picture header has them on (7.3.7).
 abbrev pub use_items : List Item → (uses_lmcs uses_scaling : Bool) → List Item
 use_items header uses_lmcs uses_scaling =
     where_so (is_set (number header ph.ph_lmcs_enabled_flag)) (item sh.sh_lmcs_used_flag (one_if uses_lmcs) ∷ [])
@@ -60,8 +60,8 @@ stated_sh_items n shape =
     ++ ((stated_filter_items n.sps.now shape.filter.now ++ use_items n.header.now.fields shape.uses_lmcs shape.uses_scaling)
     ++ qp_items shape.qp_delta)
 
--- Numbers that a header can have there: the id is that of a subpicture, and 0 where it isn't spelled; the filter goes through under the
--- sets, where the SPS has it; and the QP has a code.
+-- Numbers that a header can have there: the id is that of a subpicture, and 0 if it isn't coded; the filter goes through under the
+-- sets, if the SPS has it; and the QP has a code.
 pub record IsShape (n : SliceNumbers) (shape : ShShape) : Type 0 where
   pub known : index_of shape.subpic_id n.ids.now < length n.ids.now
   pub spelled : is_set (number n.sps.now sps_fields.sps_subpic_info_present_flag) ≡ true
@@ -121,7 +121,7 @@ pub record IsReshapedSliceHeader (source : SliceHeader) (shape : ShShape) (n : S
   pub address : written.address ≡ source.address
   pub lists : written.lists ≡ source.lists
 
--- The bytes spell a rewritten slice header, whose numbers are those that its items tell.
+-- The bytes spell a rewritten slice header, whose numbers are those that its items give.
 pub record IsSent (source : SliceHeader) (shape : ShShape) (n : SliceNumbers) (bytes : List ℕ) : Type 0 where
   pub header : SliceHeader
   pub reshaped : IsReshapedSliceHeader source shape n header

@@ -13,7 +13,7 @@ use Rattle.vx_ph.specs.declared.tables.TheConstants.{ALF}
 use Rattle.vx_sh.specs.declared.tables.TheConstants.{ADDRESS, TYPE, FILTER_HERE, LMCS_AND_SCALING, LISTS_HERE, ACTIVE, INTER, QP}
 use Rattle.vx_sh.specs.declared.tables.TheConstants.{CHROMA_QP_AND_FILTERS, END, ALIGNMENT}
 
--- The scope in which NumEntryPoints is that of the slice at the address, of so many at each address (NumEntryPoints, 7.4.8).
+-- The scope in which NumEntryPoints is that of the slice at the address, by the number at each address (NumEntryPoints, 7.4.8).
 unfoldable pub with_entry_points : (ℕ → ℕ) → List ℕ → List ℕ
 with_entry_points points s = slice_set s NUM_ENTRY_POINTS (points (slice_index s sh_slice_address))
 
@@ -21,7 +21,7 @@ with_entry_points points s = slice_set s NUM_ENTRY_POINTS (points (slice_index s
 unfoldable pub address_form : (ℕ → ℕ) → List ℕ → Form (List ℕ)
 address_form points s = form_of ADDRESS s >>= λ t. done (with_entry_points points t)
 
--- What the slice uses of the picture's adaptation sets: the filter where it stands here, LMCS and scaling lists (7.3.7).
+-- What the slice uses of the picture's adaptation sets: the filter if it is here, LMCS and scaling lists (7.3.7).
 abbrev pub own : List Section
 own = always FILTER_HERE ∷ provided (Plain (Latest HAS_ALF)) ALF ∷ always LMCS_AND_SCALING ∷ []
 
@@ -29,7 +29,7 @@ own = always FILTER_HERE ∷ provided (Plain (Latest HAS_ALF)) ALF ∷ always LM
 abbrev pub before_lists : List Section
 before_lists = always TYPE ∷ (own ++ (always LISTS_HERE ∷ []))
 
--- The lists, where they stand here (7.3.7, 7.3.9).
+-- The lists, if they are here (7.3.7, 7.3.9).
 abbrev pub lists_here : RplTable → List ℕ → Form (List ℕ)
 lists_here table = present (When (Plain (Latest HAS_LISTS))) (lists_form table)
 
@@ -37,7 +37,7 @@ lists_here table = present (When (Plain (Latest HAS_LISTS))) (lists_form table)
 abbrev pub between : List Section
 between = always ACTIVE ∷ always INTER ∷ []
 
--- Prediction weights, where they stand here (7.3.7, 7.3.8).
+-- Prediction weights, if they are here (7.3.7, 7.3.8).
 abbrev pub weights_here : List ℕ → Form (List ℕ)
 weights_here = present (When (Plain (Latest HAS_WEIGHTS))) weights_form
 
@@ -57,7 +57,7 @@ front_form points s = address_form points s >>= sections_form before_lists
 unfoldable pub sh_before_weights : RplTable → (ℕ → ℕ) → List ℕ → Form (List ℕ)
 sh_before_weights table points s = (front_form points s >>= lists_here table) >>= sections_form between
 
--- slice_header( ) after sh_subpic_id, with its alignment, with the SPS's structures of lists, and so many entry points at each
+-- slice_header( ) after sh_subpic_id, with its alignment, with the SPS's structures of lists and the number of entry points at each
 -- address, at a scope that has the numbers of the sets and the picture header in force (7.3.7).
 unfoldable pub rest_form : RplTable → (ℕ → ℕ) → List ℕ → Form (List ℕ)
 rest_form table points s = (sh_before_weights table points s >>= weights_here) >>= sections_form behind_weights

@@ -36,15 +36,15 @@ pub record AreFields (n : At) (fields : List Item) (inside : List ℤ) : Type 0 
 abbrev pub values_of : {n : At} {fields : List Item} {inside : List ℤ} → AreFields n fields inside → List ℤ
 values_of {inside} f = (f.first ++ inside) ++ f.behind
 
--- What else a slice header has: whether the picture header is inside, its subpicture and its address, and the lists that its
--- fields come to.
+-- The other values of a slice header: whether the picture header is inside, its subpicture and its address, and the lists that its
+-- fields determine.
 pub record HasNumbers (n : At) (header : SliceHeader) (end : List ℕ) : Type 0 where
   pub inside : header.inside ≡ is_set (slice_index end sh_picture_header_in_slice_header_flag)
   pub subpic : header.subpic ≡ slice_index end SUBPIC
   pub address : header.address ≡ slice_index end sh_slice_address
   pub lists : header.lists ≡ lists_of n.table n.sets header.fields
 
--- An RBSP begins with the spelling of a slice header, which takes so many bytes. The last of these isn't 00 (7.3.7).
+-- An RBSP begins with the spelling of a slice header, which takes this number of bytes. The last of these isn't 00 (7.3.7).
 pub record BeginsSlice (n : At) (rbsp : List ℕ) (header : SliceHeader) (bytes : ℕ) : Type 0 where
   pub inside : List ℤ
   pub fields : AreFields n header.fields inside
@@ -54,14 +54,13 @@ pub record BeginsSlice (n : At) (rbsp : List ℕ) (header : SliceHeader) (bytes 
   pub size : 8 * bytes + length rest ≡ 8 * length rbsp
   pub last : EndsInNoZero (take bytes rbsp)
 
--- What a reader answers: the slice header that the RBSP begins with, and its bytes; or the first refusal, as one would that passes
--- over it.
+-- The answer of a reader: the slice header at the start of the RBSP, and its bytes; or the first refusal, as when passing over it.
 abbrev pub ReadsSlice : At → List ℕ → Result (SliceHeader × ℕ) ReadError → Type 0
 ReadsSlice n rbsp (Ok (header, size)) = BeginsSlice n rbsp header size
 ReadsSlice n rbsp (Err errors.Memory) = Unit {0}
 ReadsSlice n rbsp (Err (errors.Refused r)) = (new : Place) × PassesOver {B = Unit {0}} (slice_form n) (at_front rbsp) (Err r) new
 
--- The items are those of a slice header inside of which, where a picture header stands there, the one of these items stands (7.3.7).
+-- The items are those of a slice header in which, if a picture header is inside, it is the one with these items (7.3.7).
 pub record IsSliceOf (n : At) (fields header : List Item) : Type 0 where
   pub inside : List ℤ
   pub slice : AreFields n fields inside
@@ -79,8 +78,8 @@ abbrev pub SpellingIsRead : Type 0
 SpellingIsRead = (n : At) (fields header : List Item) (bytes payload : List ℕ) (read : SliceHeader) (size : ℕ)
     → IsSliceHeaderSpelling n fields header bytes → BeginsSlice n (bytes ++ payload) read size → (read.fields ≡ fields) × (size ≡ length bytes)
 
--- The scope at the end of a slice header has the numbers that its items tell: whether the picture header is inside, the index
--- of the id, which is one of those of the subpictures, and the address.
+-- The scope at the end of a slice header has the numbers that its items give: whether the picture header is inside, the index of
+-- the id, which is one of those of the subpictures, and the address.
 pub record AreToldBySlice (n : At) (fields : List Item) (end : List ℕ) : Type 0 where
   pub inside : slice_index end sh_picture_header_in_slice_header_flag ≡ number fields sh_picture_header_in_slice_header_flag
   pub subpic : slice_index end SUBPIC ≡ index_of (number fields sh_subpic_id) n.ids
@@ -91,7 +90,7 @@ abbrev pub NumbersAreTold : Type 0
 NumbersAreTold = (n : At) (fields : List Item) (inside : List ℤ) (f : AreFields n fields inside) → length n.slice ≡ 1024
     → AreToldBySlice n fields f.end
 
--- The numbers beside the items are those that these tell.
+-- The numbers stored with the items are those that these give.
 pub record TellsNumbers (n : At) (header : SliceHeader) : Type 0 where
   pub inside : header.inside ≡ is_set (number header.fields sh_picture_header_in_slice_header_flag)
   pub subpic : header.subpic ≡ index_of (number header.fields sh_subpic_id) n.ids
@@ -103,7 +102,7 @@ abbrev pub SpellingBegins : Type 0
 SpellingBegins = (n : At) (header : SliceHeader) (others : List Item) (bytes payload : List ℕ) → length n.slice ≡ 1024
     → TellsNumbers n header → IsSliceHeaderSpelling n header.fields others bytes → BeginsSlice n (bytes ++ payload) header (length bytes)
 
--- What was read can be written: with any picture header where none is inside, else with the one that the bits after the first
+-- What was read can be written: with any picture header if none is inside, otherwise with the one that the bits after the first
 -- spell.
 pub record CanBeWritten (n : At) (rbsp : List ℕ) (header : SliceHeader) : Type 0 where
   pub apart : header.inside ≡ false → (others : List Item) → IsSliceOf n header.fields others

@@ -20,7 +20,8 @@ use Rattle.vx_sh.specs.Slice.{rest_form}
 
 -- ---- the subpicture (7.4.8)
 
--- The place of an id among the ids of the subpictures; past the last one where it is none of them (CurrSubpicIdx, 7.4.8).
+-- The place of an id among the ids of the subpictures, or the place after the last one if it is none of them (CurrSubpicIdx,
+-- 7.4.8).
 abbrev pub index_of : ℕ → List ℕ → ℕ
 index_of id [] = 0
 index_of id (n ∷ more) = cond (n == id) 0 (index_of id more + 1)
@@ -40,13 +41,13 @@ located ids layout s =
 unfoldable pub subpic_id_form : List ℕ → Numbers → List ℕ → Form (List ℕ)
 subpic_id_form ids layout s = form_of SUBPIC_ID s >>= λ t. done (located ids layout t)
 
--- It is refused where no subpicture has it (7.4.8).
+-- It is refused if no subpicture has it (7.4.8).
 unfoldable pub subpic_form : List ℕ → Numbers → List ℕ → Form (List ℕ)
 subpic_form ids layout s = subpic_id_form ids layout s >>= form_of KNOWN_SUBPIC
 
 -- ---- entry points (7.4.8)
 
--- Of slice m of subpicture k (7.4.8, NumEntryPoints): none where the SPS says that slice headers don't name them.
+-- For slice m of subpicture k (7.4.8, NumEntryPoints): none if the SPS says that slice headers don't name them.
 unfoldable pub points_at : Numbers → (has_points sync : Bool) → ℕ → ℕ → ℕ
 points_at layout has_points sync k m =
     cond (has_points && nat_lt m (num_slices_in_subpic layout k)) (entries layout.columns layout.rows (slice_at layout k m) sync) 0
@@ -66,7 +67,7 @@ there table layout s = rest_form table (points_of layout s) s
 unfoldable pub behind_header : RplTable → List ℕ → Numbers → List ℕ → Form (List ℕ)
 behind_header table ids layout s = subpic_form ids layout s >>= there table layout
 
--- The picture header, where it is inside: it reads the numbers of the sets, and leaves those of the slice (7.3.7).
+-- The picture header, if it is inside: it uses the numbers of the sets, and leaves those of the slice unchanged (7.3.7).
 abbrev pub header_inside : RplTable → List ℕ → List ℕ → Form (List ℕ)
 header_inside table sets =
     present (When (Plain (Latest sh_picture_header_in_slice_header_flag))) (λ s. header_form table sets >>= λ t. done s)

@@ -29,8 +29,8 @@ abbrev pub names_of_kept : List ℕ
 names_of_kept = EXTRA_BIT ∷ NUM_QP_TABLES ∷ QP_TABLE ∷ QP_POINT ∷ NUM_STRUCTURES ∷ STRUCTURE ∷ IN_SPS ∷ IN_HEADER ∷ MAY_WEIGHT ∷ ENTRY
     ∷ MAY_BE_0 ∷ HAS_SIGN ∷ IS_LONG ∷ LONG_ENTRIES ∷ INTERVAL ∷ []
 
--- What a rewritten set has as its source besides: whether there is timing, and the usability information, with the name that
--- its rows use; and the gap at the end.
+-- What a rewritten set copies from its source in addition: whether there is timing, and the usability information, with the name
+-- that its rows use; and the gap at the end.
 abbrev pub taken_besides : List ℕ
 taken_besides = sps.sps_timing_hrd_params_present_flag ∷ sps.sps_vui_parameters_present_flag ∷ sps.sps_vui_payload_size_minus1
     ∷ sps.vui_payload_byte ∷ VUI_BYTE ∷ sps.sps_rbsp_trailing_bits ∷ []
@@ -43,11 +43,11 @@ taken_sps_fields = names_of_kept ++ (taken_besides ++ kept_sps_fields)
 abbrev pub StarsTellKept : Type 0
 StarsTellKept = KeepsOnly [] kept_sps_fields (sections_form sps_sections)
 
--- Kept fields depend on one another alone: on no other field of the set, and on no number of the scope that it is read at.
+-- Kept fields depend only on one another: on no other field of the set, and on no number of the scope at which it is read.
 abbrev pub KeptDependsOnKept : Type 0
 KeptDependsOnKept = DependsOnlyOn [] (names_of_kept ++ kept_sps_fields) (sections_form sps_sections)
 
--- Their items are all that sifting keeps: no absent field stands among them.
+-- Their items are all that selection keeps: no absent field is among them.
 abbrev pub KeptAreSifted : Type 0
 KeptAreSifted = (values : List ℤ) (end : List ℕ) → Follows sps_form values end
     → kept_along sps_form values ≡ kept_sps_items (items_along sps_form values)

@@ -26,11 +26,11 @@ use Rattle.vx_table.specs.Rewritten.{where_so}
 
 -- ---- what is stated, in the order of the syntax (7.3.2.4; what is stated is our own choice)
 
--- An item of a field; and items that stand only where something holds (our own).
+-- An item of a field; and items that are present only if a condition holds (our own).
 abbrev pub item : ℕ → ℕ → Item
 item of n = record { field = of; value = pos n }
 
--- An item that the source's last one gives its number (our own).
+-- An item with the number that the source's last one gives (our own).
 abbrev pub item_of_source : List Item → ℕ → Item
 item_of_source source of = item of (number source of)
 
@@ -46,12 +46,12 @@ profile_items source level =
     ∷ (replicate (number source sps.sps_max_sublayers_minus1) (item ptl.ptl_sublayer_level_present_flag 0)
     ++ item ptl.ptl_num_sub_profiles 0 ∷ [])
 
--- The window's offsets, left, right, top and bottom, where one isn't 0 (our own).
+-- The window's offsets, left, right, top and bottom, if one isn't 0 (our own).
 abbrev pub has_window : List ℕ → Bool
 has_window window =
     (is_set (slice_index window 0) || is_set (slice_index window 1)) || (is_set (slice_index window 2) || is_set (slice_index window 3))
 
--- The window: sps_conformance_window_flag, and the offsets where it is 1 (7.3.2.4).
+-- The window: sps_conformance_window_flag, and the offsets if it is 1 (7.3.2.4).
 abbrev pub window_items : List ℕ → List Item
 window_items window =
     item sps.sps_conformance_window_flag (one_if (has_window window))
@@ -64,7 +64,7 @@ abbrev pub picture_size_items : ℕ → ℕ → List ℕ → List Item
 picture_size_items width height window =
     item sps.sps_pic_width_max_in_luma_samples width ∷ item sps.sps_pic_height_max_in_luma_samples height ∷ window_items window
 
--- The place of subpicture i: its corner, but of the first, and its size, but of the last, both in columns and rows where the
+-- The place of subpicture i: its corner, except for the first, and its size, except for the last, each in columns and rows if the
 -- picture has several of these (7.3.2.4).
 abbrev pub place_items : ℕ → ℕ → List Rect → ℕ → List Item
 place_items columns rows rects i =
@@ -82,7 +82,7 @@ places_items columns rows rects = where_so (nat_lt 1 (length rects))
     (item sps.sps_independent_subpics_flag 1 ∷ item sps.sps_subpic_same_size_flag 0
     ∷ in_all_turns (place_items columns rows rects) 0 (length rects))
 
--- The id of the one subpicture, where the set has it (7.3.2.4).
+-- The id of the one subpicture, if the set has it (7.3.2.4).
 abbrev pub mapping_items : Option ℕ → List Item
 mapping_items None = item sps.sps_subpic_id_mapping_present_flag 0 ∷ []
 mapping_items (Some id) = item sps.sps_subpic_id_mapping_present_flag 1 ∷ item sps.sps_subpic_id id ∷ []
@@ -104,13 +104,13 @@ many_items columns rows rects =
     ∷ (places_items columns rows rects
     ++ item sps.sps_subpic_id_len_minus1 (id_bits (length rects) - 1) ∷ item sps.sps_subpic_id_mapping_explicitly_signalled_flag 0 ∷ [])
 
--- The subpictures of a picture of so many columns and rows of CTUs (7.3.2.4).
+-- The subpictures of a picture with these numbers of columns and rows of CTUs (7.3.2.4).
 abbrev pub subpic_items : ℕ → ℕ → SubpicPlan → List Item
 subpic_items columns rows Absent = item sps.sps_subpic_info_present_flag 0 ∷ []
 subpic_items columns rows (One id_len id) = item sps.sps_subpic_info_present_flag 1 ∷ one_items id_len id
 subpic_items columns rows (Many rects) = item sps.sps_subpic_info_present_flag 1 ∷ many_items columns rows rects
 
--- DPB parameters of the highest sublayer alone (clause 7.3.4).
+-- DPB parameters only of the highest sublayer (clause 7.3.4).
 abbrev pub dpb_items : List Item → List ℕ → List Item
 dpb_items source numbers =
     where_so (is_set (number source sps.sps_max_sublayers_minus1)) (item sps.sps_sublayer_dpb_params_flag 0 ∷ [])
@@ -154,7 +154,8 @@ pub record IsSize (n : ℕ) : Type 0 where
   pub small : n ≤ 16384
   pub whole : n % 8 ≡ 0
 
--- Rectangles that are parts of a picture of so many columns and rows, the first from its first CTU on, the last to its last.
+-- Rectangles that are parts of a picture with these columns and rows; the first begins at its first CTU, the last ends at its
+-- last.
 pub record AreParts (columns rows : ℕ) (rects : List Rect) : Type 0 where
   pub some : 0 < length rects
   pub few : length rects ≤ 1000

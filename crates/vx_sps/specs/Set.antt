@@ -1,4 +1,4 @@
--- A sequence parameter set as its items, what these tell of its pictures, and how it is spelled.
+-- A sequence parameter set as its items, what these say of its pictures, and how it is spelled.
 use Rattle.std.specs.Prelude.{◌≡◌, ◌⊎◌, ℕ, ℤ, ◌+◌, ◌^◌, Bool, ◌&&◌, ◌||◌, ◌==◌, ◌≤◌, List}
 use Rattle.std.specs.Prelude.{[], ◌++◌, count_by, length, Result, Ok, Err}
 use Rattle.vx_bits.specs.Codes.{bits_of}

@@ -31,7 +31,7 @@ profile = always PTL ∷ []
 abbrev pub resampling : List Section
 resampling = always tables.RESAMPLING ∷ []
 
--- What stands where sps_subpic_info_present_flag is 1 (7.3.2.4).
+-- What is present if sps_subpic_info_present_flag is 1 (7.3.2.4).
 abbrev pub with_subpictures : List Row → Section
 with_subpictures rows = provided (Plain (Latest sps_subpic_info_present_flag)) rows
 
@@ -58,7 +58,7 @@ tools = always tables.PARTITIONS ∷ always tables.TRANSFORMS ∷ always tables.
     ∷ always tables.REFERENCES ∷ rpl_structures ∷ always tables.LIST_1 ∷ rpl_structures
     ∷ always tables.INTER ∷ always tables.INTRA ∷ always tables.SCALING ∷ always tables.TIMED ∷ []
 
--- What stands where sps_timing_hrd_params_present_flag is 1 (7.3.2.4).
+-- What is present if sps_timing_hrd_params_present_flag is 1 (7.3.2.4).
 abbrev pub timed : List Row → Section
 timed rows = provided (Plain (Latest sps_timing_hrd_params_present_flag)) rows
 

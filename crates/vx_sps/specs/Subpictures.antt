@@ -15,16 +15,15 @@ subpics_of items = number items sps.sps_num_subpics_minus1 + 1
 
 -- ---- rectangles, in CTUs (7.4.3.4)
 
--- sps_subpic_ctu_top_left_x or _y of subpicture i, which the first one lacks; 0 where it is absent (7.4.3.4).
+-- sps_subpic_ctu_top_left_x or _y of subpicture i, which the first one lacks; 0 if it is absent (7.4.3.4).
 abbrev pub ctu_top_left_at : List ℕ → ℕ → ℕ
 ctu_top_left_at corners i = cond (i == 0) 0 (slice_index corners (i - 1))
 
--- sps_subpic_width_minus1 or _height_minus1 of it, and 1 more; where it is absent the subpicture reaches to the border
--- (7.4.3.4).
+-- sps_subpic_width_minus1 or _height_minus1 of it, plus 1; if it is absent, the subpicture extends to the border (7.4.3.4).
 abbrev pub size_at : List ℕ → ℕ → ℕ → ℕ → ℕ
 size_at sizes border corner i = cond (nat_lt i (length sizes)) (capped (slice_index sizes i + 1)) (border - corner)
 
--- A rectangle that is spelled by itself (7.4.3.4).
+-- A rectangle that is coded on its own (7.4.3.4).
 abbrev pub own_rect : List Item → ℕ → Rect
 own_rect items i =
     let x = ctu_top_left_at (numbers_of items sps.sps_subpic_ctu_top_left_x) i in
@@ -36,11 +35,11 @@ own_rect items i =
       h = size_at (numbers_of items sps.sps_subpic_height_minus1) (ctu_rows_of items) y i;
     }
 
--- How many of a width stand beside one another: numSubpicCols, at least 1 (7.4.3.4).
+-- How many of a width fit next to each other: numSubpicCols, at least 1 (7.4.3.4).
 abbrev pub subpic_columns : ℕ → ℕ → ℕ
 subpic_columns columns w = cond (w == 0) 1 (max (columns / w) 1)
 
--- Rectangle i of those that stand on the grid of the first one's size (7.4.3.4).
+-- Rectangle i on the grid of the first one's size (7.4.3.4).
 abbrev pub on_grid : ℕ → Rect → ℕ → Rect
 on_grid columns first i = record {
   x = capped ((i % subpic_columns columns first.w) * first.w);
@@ -56,7 +55,7 @@ rect_of items i =
 
 -- ---- flags and ids (7.4.3.4)
 
--- It is treated as a picture, also where all are independent or it is the only one (7.4.3.4).
+-- It is treated as a picture, also if all are independent or it is the only one (7.4.3.4).
 abbrev pub is_treated : List Item → ℕ → Bool
 is_treated items i = is_set (slice_index_or (numbers_of items sps.sps_subpic_treated_as_pic_flag) i 1)
 
@@ -64,6 +63,6 @@ is_treated items i = is_set (slice_index_or (numbers_of items sps.sps_subpic_tre
 abbrev pub is_filtered : List Item → ℕ → Bool
 is_filtered items i = is_set (slice_index_or (numbers_of items sps.sps_loop_filter_across_subpic_enabled_flag) i 0)
 
--- Its id where no PPS says another: sps_subpic_id, or i where that is absent (7.4.3.4).
+-- Its id if no PPS gives another: sps_subpic_id, or i if that is absent (7.4.3.4).
 abbrev pub sps_subpic_id_of : List Item → ℕ → ℕ
 sps_subpic_id_of items i = slice_index_or (numbers_of items sps.sps_subpic_id) i i

@@ -1,4 +1,4 @@
--- What the definition of an adaptation parameter set comes to, apart from any program.
+-- What follows from the definition of an adaptation parameter set, for any program.
 use Rattle.std.specs.Prelude.{◌≡◌, ℕ, List, Option, Result}
 use Rattle.vx_bits.specs.declared.refusal.Refusal.{Refusal}
 use Rattle.vx_aps.specs.declared.aps.Aps.{Aps}

@@ -1,4 +1,4 @@
--- What code that reads slices answers, in the words of the readers of H.266.
+-- The answers of code that reads slices, related to the readers of H.266.
 use Rattle.std.specs.Prelude.{◌≡◌, ℕ}
 use Rattle.vx_sh.specs.declared.header.SliceHeader.{SliceHeader as SliceValue}
 use Rattle.vx_sh.specs.declared.numbers.SliceNumbers.{SliceNumbers}

@@ -33,7 +33,7 @@ pub record AreOf (sps pps : List Item) (f : InForce) : Type 0 where
   pub pps_is : f.pps ≡ pps
   pub made : AreMade f
 
--- The sets that a PPS id refers to, of those that stand at their ids.
+-- The sets to which a PPS id refers, among those stored at their ids.
 abbrev pub sets_at : (ℕ → Option (List Item)) → (ℕ → Option (List Item)) → ℕ → Result SetPair Refusal
 sets_at pps_at sps_at id = do
   pps ← ok_or (pps_at id) (missing sets.PPS id)

@@ -44,21 +44,21 @@ with_end s = record s { ended = true }
 
 -- ---- pictures
 
--- A header that came in this PH unit, or in none.
+-- A header that was taken in this PH unit, or in none.
 abbrev pub with_header : BegunPicture → List ℕ → CurrentPicture → CurrentPicture
 with_header b unit c = record c { stage = stages.Headed b; bytes = unit; header_end = length unit; slices = [] }
 
--- The first slice comes, where the header came.
+-- The first slice is taken, if the header was.
 abbrev pub first_comes : Kind → Stage → Stage
 first_comes k stages.Nothing = stages.Nothing
 first_comes k (stages.Headed b) = stages.Going (record { begun = b; kind = k })
 first_comes k (stages.Going g) = stages.Going g
 
--- Before the first slice: what the picture is, its adaptation parameter sets, and the messages gathered for it; no slice came.
+-- Before the first slice: the picture's kind, its adaptation parameter sets, and the messages gathered for it; no slice is present.
 abbrev pub with_kind : Kind → List (Option Aps) → List Message → CurrentPicture → CurrentPicture
 with_kind k sets messages c = record c { stage = first_comes k c.stage; slices = []; bodies = sets; messages = messages }
 
--- A slice after so many bytes.
+-- A slice after this number of bytes.
 abbrev pub slot_behind : ℕ → List ℕ → ReadSlice → SliceSlot
 slot_behind at unit r = record { header = r.header; start = at; payload = at + r.payload; end = at + length unit }
 

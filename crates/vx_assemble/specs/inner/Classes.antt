@@ -1,4 +1,4 @@
--- What the code has for types of NAL units, in the words of their definition.
+-- The classes of NAL unit types in the code, related to their definition.
 use Rattle.std.specs.Prelude.{ℕ, ◌==◌, cond}
 use Rattle.vx_pic.specs.declared.unit_types.TheConstants as types
 use Rattle.vx_pic.specs.Units.{is_slice_type, is_end_type, Class, other_unit, vps_unit, sps_unit, pps_unit, prefix_aps, suffix_aps}

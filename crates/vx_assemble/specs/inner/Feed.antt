@@ -1,4 +1,4 @@
--- What a feed keeps to, and its steps.
+-- The invariants of a feed, and its steps.
 use Rattle.std.specs.Prelude.{◌≡◌, ℕ, ◌+◌, ◌^◌, ◌≤◌, List, ◌++◌, length, Option, Result, Ok, Err, Some, None, IsSome}
 use Rattle.vx_annexb.specs.NalUnit.{header_of}
 use Rattle.vx_annexb.specs.Held.{ahead, fed}
@@ -25,7 +25,7 @@ use Rattle.vx_assemble.specs.Held.{Held, Took, IsBounded}
 use Rattle.vx_assemble.specs.declared.fault.First.{First}
 use Rattle.vx_assemble.specs.Feed.{Feeding, EndsAtEnd, HasFed, HasGone}
 
--- Each unit has a byte of its own, and once a read failed the feed doesn't go on.
+-- Each unit has a byte of its own, and after a failed read the feed has stopped.
 pub record IsInStep (f : Feeding) : Type 0 where
   pub units : f.first ≡ None → f.units + ahead f.reader.splitter ≤ fed f.reader.splitter
   pub fed : fed f.reader.splitter ≤ 2 ^ 40
@@ -33,11 +33,11 @@ pub record IsInStep (f : Feeding) : Type 0 where
   pub held : HoldsFew f.reader
   pub bounded : IsBounded f.assembler
 
--- A feed of these parts that goes on.
+-- A feed with these parts that has not stopped.
 abbrev pub feeding : reader.Reading → Held → ℕ → Feeding
 feeding r a n = record { reader = r; assembler = a; units = n; first = None }
 
--- The unit at a place was taken after those before it, and this is told of it; or why it was not.
+-- The unit at a place was taken after those before it, with this result; or why it was not.
 abbrev pub Accepts : Readers → List Reading → Held → List ℕ → ℕ → Result Taken FeedFault → Type 0
 Accepts R before new unit place (Ok (Nal header offset bytes what)) =
     Took (reads R before unit) before new what × (header ≡ header_of unit) × (offset ≡ place) × (bytes ≡ length unit)
@@ -74,7 +74,7 @@ pub record Seeks (old f : Feeding) (left left' : Option (List ℕ)) (faults faul
   pub stopped : (first : First) → old.first ≡ Some first → (f ≡ old) × (left' ≡ left) × (faults' ≡ faults)
   pub units : f.units ≡ old.units
 
--- Where a feed comes to that took this; None where it is a unit that completes no picture.
+-- The step of a feed that took this; None for a unit that completes no picture.
 abbrev pub step_by : Taken → Option Step
 step_by End = Some steps.End
 step_by (Nal header place bytes accepted.PictureDone) = Some steps.Picture

@@ -11,7 +11,7 @@ HasAnswered (Ok done) = Unit {0}
 HasAnswered (Err errors.Memory) = ⊥
 HasAnswered (Err (errors.Refused r)) = Unit {0}
 
--- What stands before a picture header, inside a slice.
+-- What comes before a picture header, inside a slice.
 abbrev pub head_items : Bool → List Item
 head_items true = inside_item ∷ []
 head_items false = []

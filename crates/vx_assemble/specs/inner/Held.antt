@@ -21,7 +21,7 @@ use Rattle.vx_assemble.specs.declared.state.Stage.{Stage}
 use Rattle.vx_assemble.specs.declared.state.Stage.TheVariants as stages
 use Rattle.vx_assemble.specs.declared.state.State.{State}
 
--- An assembler, as its callers see it: what it keeps of the units, what it told of the last one, and why it takes no more.
+-- The model of an assembler: what it keeps of the units, its result for the last one, and why it takes no more.
 pub record Held : Type 0 where
   pub state : State
   pub told : Accepted
@@ -29,7 +29,7 @@ pub record Held : Type 0 where
 
 -- ---- the picture that was begun last
 
--- Its header with what is in force for it, where this is its PH unit.
+-- Its header with what is in force for it, if this is its PH unit.
 abbrev pub begun_of : BegunPicture → Option (List ℕ) → Begun
 begun_of b unit = record {
   sps = b.sets.sps;
@@ -40,7 +40,7 @@ begun_of b unit = record {
   unit = unit;
 }
 
--- The header, and what the picture is, as far as it came.
+-- The header, and the picture's kind, as far as they were taken.
 abbrev pub header_at : Stage → Option BegunPicture
 header_at stages.Nothing = None
 header_at (stages.Headed b) = Some b
@@ -68,7 +68,7 @@ pub record IsHeaded (s : CurrentPicture) (b : Begun) : Type 0 where
   pub slices : s.slices ≡ []
   pub size : length s.bytes ≡ unit_size b.unit
 
--- A picture, as far as its slices came.
+-- A picture, with the slices so far.
 pub record IsGoing (s : CurrentPicture) (p : Picture) : Type 0 where
   pub begun : begun_in s ≡ Some p.begun
   pub kind : kind_at s.stage ≡ Some p.kind
@@ -108,7 +108,7 @@ aps_items a =
     ∷ record { field = aps_adaptation_parameter_set_id; value = pos a.id }
     ∷ []
 
--- The items of the latest unit, where it isn't kept in a table.
+-- The items of the latest unit, if it isn't kept in a table.
 abbrev pub AreItems : List Item → List Reading → Type 0
 AreItems items [] = Unit {0}
 AreItems items (vps_read v ∷ before) = items ≡ v

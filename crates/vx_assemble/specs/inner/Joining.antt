@@ -28,7 +28,7 @@ all_there sets [] = Ok tt
 all_there sets (slot ∷ slots) =
     cond (is_none (aps_at sets slot.kind slot.id)) (Err (missing slot.kind slot.id)) (all_there sets slots)
 
--- The one at this place is the next one after so many.
+-- The one at this place is the next one after this number.
 abbrev pub next_slice : Numbers → ℕ → SliceHeader → Result (Unit {0}) Refusal
 next_slice layout count h = refuse_if (not (slices_before layout h == count)) (structure rules.SLICE_MISSING)
 
@@ -46,13 +46,13 @@ qp_in p header items = slice_qp p header (items_only items)
 abbrev pub qp_checked : List Item → ℤ → Result (Unit {0}) Refusal
 qp_checked s qp = refuse_if (not (is_qp s qp)) (structure rules.QP_RANGE)
 
--- There is a payload, and the picture isn't too long: of so many bytes before this unit.
+-- There is a payload, and the picture isn't too long, with this number of bytes before this unit.
 abbrev pub in_limits : ℕ → ℕ → ℕ → Result (Unit {0}) Refusal
 in_limits size more payload = do
   _ ← refuse_if (nat_le more payload) (structure rules.EMPTY_PAYLOAD)
   refuse_if (nat_lt picture_limit (size + more)) (Limit rules.LONG_PICTURE)
 
--- A slice that was read joins so many of a picture, where these sets are in force.
+-- A slice that was read joins a picture with this number of slices and bytes, if these sets are in force.
 abbrev pub checked : Begun → List (Option Aps) → ℕ → ℕ → ℕ → SliceHeader → Result (Unit {0}) Refusal
 checked b sets count size more h = do
   _ ← next_slice b.layout count h

@@ -20,7 +20,7 @@ no_parts = record {
   messages = [];
 }
 
--- Of a picture that came so far.
+-- For a picture that was taken this far.
 abbrev pub parts_by : Stage → CurrentPicture → Parts
 parts_by stages.Nothing c = no_parts
 parts_by (stages.Headed b) c = no_parts

@@ -1,4 +1,4 @@
--- What a feed of bytes in memory keeps to, and its steps.
+-- The invariants of a feed of bytes in memory, and its steps.
 use Rattle.std.specs.Prelude.{◌≡◌, ℕ, ◌+◌, ◌^◌, ◌≤◌, nat_le, List, [], length, Option, Some, None, Result, Ok, Err}
 use Rattle.vx_annexb.specs.Held.{Held as Splitting, ahead, fed, is_all}
 use Rattle.vx_annexb.specs.ByteStream.{source_limit, UnitPlace}
@@ -26,7 +26,7 @@ pub record IsInMemory (f : Feeding) : Type 0 where
   pub fed : fed f.reader.splitter ≤ 2 ^ 40
   pub bounded : IsBounded f.assembler
 
--- A splitter was fed these bytes, as far as they may be looked at, and so many were given.
+-- A splitter was fed these bytes, as far as the limit, and this number was given.
 pub record IsGiven (bytes : List ℕ) (h : Splitting) (n : ℕ) : Type 0 where
   pub front : List ℕ
   pub read : reader.HasRead (given h n) front []
@@ -40,7 +40,7 @@ GivesUnit R g places before f (Ok (Some what)) =
 GivesUnit R g places before f (Ok None) = Gives R g places before f (Ok (Some End))
 GivesUnit R g places before f (Err fault) = Gives R g places before f (Err (fault_of fault))
 
--- Where that comes to; None where it is a unit that completes no picture.
+-- The step; None for a unit that completes no picture.
 abbrev pub step_at : Option Accepted → Option Step
 step_at None = Some steps.End
 step_at (Some accepted.PictureDone) = Some steps.Picture

@@ -1,4 +1,4 @@
--- What holds of all that an assembler keeps: it lies in order, within the limits.
+-- The invariants of all that an assembler keeps: it is in order, within the limits.
 use Rattle.std.specs.Prelude.{◌≡◌, ℕ, ◌≤◌, ◌<◌, List, length, Option, Some, None, option_map, true}
 use Rattle.std.specs.List.{AllByRecursion, slice_index_or}
 use Rattle.vx_bits.specs.declared.list.Item.{Item}
@@ -48,7 +48,7 @@ abbrev pub AreKept : List (Option (List Item)) → List (Option (List Item)) →
 AreKept sps pps None = Unit {0}
 AreKept sps pps (Some m) = AreStored sps pps m
 
--- The SPS of the header that came last.
+-- The SPS of the last header that was taken.
 abbrev pub begun_sps : Stage → Option (List Item)
 begun_sps stage = option_map (λ b. b.sets.sps) (header_at stage)
 
@@ -57,18 +57,18 @@ abbrev pub AreUnder : Option (List Item) → Option MadeSets → Type 0
 AreUnder sps None = Unit {0}
 AreUnder sps (Some m) = sps ≡ Some m.sets.sps
 
--- This is the SPS of the last whole picture, where that is known of the picture that was begun last.
+-- This is the SPS of the last whole picture, if that is known of the picture that was begun last.
 abbrev pub KnowsSps : State → Option (List Item) → Type 0
 KnowsSps s sps = s.unchanged ≡ true → last_held s ≡ sps
 
--- A picture header, with the lists that its items come to, and ids that there are.
+-- A picture header, with the lists that its items determine, and ids that exist.
 pub record IsHeader (b : BegunPicture) : Type 0 where
   pub sets : AreMade b.sets
   pub header : b.header ≡ picture_header_of (begun_of b None)
   pub read : picture.IsHeader (structures b.sets.sps) (in_force b.sets.sps b.sets.pps) b.header
   pub small : NamesSmall b.header.fields
 
--- A slice of that picture, which stands in these bytes, where these adaptation parameter sets are in force.
+-- A slice of that picture, which is in these bytes, if these adaptation parameter sets are in force.
 pub record IsSlot (b : BegunPicture) (bytes : List ℕ) (sets : List (Option Aps)) (slot : SliceSlot) : Type 0 where
   pub placed : IsPlaced bytes slot
   pub subpic : slot.header.subpic < length b.sets.layout.subpics
@@ -87,7 +87,7 @@ AreRead stages.Nothing slots = Unit {0}
 AreRead (stages.Headed b) slots = Unit {0}
 AreRead (stages.Going g) slots = AllByRecursion (λ s. IsReadAt (at_begun g.kind.nal_type g.begun) s.header) slots
 
--- What a picture is whose first slice came: its type and its TemporalId are those of a NAL unit.
+-- The kind of a picture whose first slice was taken: its type and its TemporalId are those of a NAL unit.
 abbrev pub IsOfUnit : Option Kind → Type 0
 IsOfUnit None = Unit {0}
 IsOfUnit (Some k) = (k.nal_type < 32) × (k.temporal_id < 7)
@@ -118,7 +118,7 @@ pub record IsInOrder (s : State) : Type 0 where
   pub spelled : s.gathered_len ≡ spelled_length s.gathered
   pub gathered : s.gathered_len ≤ message_limit
 
--- All slices of a picture came.
+-- All slices of a picture were taken.
 abbrev pub AreAll : Stage → List SliceSlot → Type 0
 AreAll stages.Nothing slots = ⊥
 AreAll (stages.Headed b) slots = ⊥
@@ -127,7 +127,7 @@ AreAll (stages.Going g) slots = (0 < length slots) × (length slots ≡ length g
 pub record IsComplete (c : CurrentPicture) : Type 0 where
   pub slices : AreAll c.stage c.slices
 
--- What was told of the last unit is so.
+-- The result for the last unit is true.
 pub record IsKept (s : State) (told : Accepted) : Type 0 where
   pub order : IsInOrder s
   pub done : told ≡ accepted.PictureDone → IsComplete s.picture

@@ -1,4 +1,4 @@
--- Where a slice joins a picture.
+-- The place where a slice joins a picture.
 use Rattle.std.specs.Prelude.{◌≡◌, length}
 use Rattle.vx_pic.specs.Readings.{Picture}
 use Rattle.vx_pic.specs.Rules.{picture_size}

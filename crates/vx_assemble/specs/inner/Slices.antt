@@ -18,7 +18,7 @@ use Rattle.vx_assemble.specs.inner.Takes.{slice_read_as}
 use Rattle.vx_assemble.specs.inner.Joining.{IsJoined}
 use Rattle.vx_assemble.specs.inner.Changes.{with_kind, with_slice, with_begun_picture, counts_behind, came_all, settled}
 
--- A picture of which no slice came.
+-- A picture of which no slice was taken.
 pub record IsFresh (c : CurrentPicture) (k : BegunPicture) (b : Begun) : Type 0 where
   pub begun : begun_of k b.unit ≡ b
   pub slices : c.slices ≡ []
@@ -34,7 +34,7 @@ pub record HasJoined (c : CurrentPicture) (size : ℕ) (r : ReadSlice) : Type 0 
   pub is : c.stage ≡ stages.Going going
   pub joined : IsJoined going.begun going.kind.nal_type c.bodies size r
 
--- The first one has, of a picture whose header came.
+-- The first one has, for a picture whose header was taken.
 pub record HasJoinedFirst (c : CurrentPicture) (size : ℕ) (o : Opened) : Type 0 where
   pub begun : BegunPicture
   pub is : c.stage ≡ stages.Headed begun
@@ -44,7 +44,7 @@ pub record HasJoinedFirst (c : CurrentPicture) (size : ℕ) (o : Opened) : Type 
 abbrev pub with_first : List ℕ → Opened → State → State
 with_first unit o s = with_begun_picture (with_slice unit o.read (with_kind o.kind o.bodies s.gathered s.picture)) s
 
--- Whether a picture is done is told, and kept.
+-- Whether a picture is complete is returned, and kept.
 abbrev pub told_settled : BegunPicture → CurrentPicture → Accepted
 told_settled k c = cond (came_all k c) accepted.PictureDone accepted.Nothing
 
@@ -52,7 +52,7 @@ pub record IsSettled (old new : State) (what : Accepted) : Type 0 where
   pub new_is : (g : GoingPicture) → old.picture.stage ≡ stages.Going g → new ≡ settled g.begun g.kind old
   pub told : (g : GoingPicture) → old.picture.stage ≡ stages.Going g → what ≡ told_settled g.begun old.picture
 
--- What later pictures come to after the picture that was begun, where all its slices came.
+-- What later pictures need after the picture that was begun, if all its slices were taken.
 abbrev pub whole_of : Stage → State → Option Whole
 whole_of stages.Nothing s = None
 whole_of (stages.Headed b) s = None

@@ -18,12 +18,12 @@ pub record IsSentAgain {S : Type 0} (reads : Readers → List ℕ → Result S R
   pub own : id ≡ id_of set
   pub read : IsReadAs reads set rbsp
 
--- What sets made up is kept where they stand as they stood, or isn't kept.
+-- What sets made up is kept if they are stored unchanged, or isn't kept.
 abbrev pub KeepsMade : {S M : Type 0} → List (Option S) → List (Option S) → Option M → Option M → Type 0
 KeepsMade old new made None = Unit {0}
 KeepsMade old new made (Some m) = (new ≡ old) × (made ≡ Some m)
 
--- The set of these bytes stands under its id, and each other one where it stood.
+-- The set of these bytes is stored under its id, and each other one is unchanged.
 pub record IsPut {S M : Type 0} (reads : Readers → List ℕ → Result S Refusal) (id_of : S → ℕ) (old new : List (Option S)) (made made' : Option M)
     (rbsp : List ℕ) (id : ℕ) : Type 0 where
   pub set : S

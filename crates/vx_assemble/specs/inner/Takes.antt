@@ -1,4 +1,4 @@
--- What steps of an assembler answer, in the words of the rules.
+-- The results of steps of an assembler, related to the rules.
 use Rattle.std.specs.Prelude.{◌≡◌, ℕ, ◌<◌, List, ◌∷◌, length, None, Result, Ok, Err}
 use Rattle.std.specs.List.{AllByRecursion}
 use Rattle.vx_bits.specs.declared.list.Item.{Item}
@@ -64,7 +64,7 @@ pub record IsReadUnder (b : BegunPicture) (t : ℕ) (r : ReadSlice) : Type 0 whe
 abbrev pub outside_picture : List Reading → Result (Unit {0}) Refusal
 outside_picture before = refuse_if (is_within_picture (current before)) (structure rules.SET_INSIDE_PICTURE)
 
--- What ends a picture, or begins one, is refused where a slice of the last one is missing.
+-- What ends a picture, or begins one, is refused if a slice of the last one is missing.
 abbrev pub no_slice_missing : List Reading → Result (Unit {0}) Refusal
 no_slice_missing before = refuse_if (is_open (current before)) (structure rules.SLICE_MISSING)
 

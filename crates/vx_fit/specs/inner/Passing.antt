@@ -1,4 +1,4 @@
--- What the bodies that find a frame's lines answer.
+-- The results of the bodies that find a frame's lines.
 use Rattle.std.specs.Prelude.{◌≡◌, ◌↔◌, ℕ, ◌+◌, ◌<◌, ◌≤◌, List, All, Contains, Option, None, Some, length}
 use Rattle.std.specs.List.{AllZip}
 use Rattle.vx_layout.specs.declared.numbers.Numbers.{Numbers}
@@ -13,11 +13,11 @@ pub record LinesBelow (IsLine : ℕ → Type 0) (bounds : List ℕ) (n : ℕ) : 
   pub rises : Rises bounds
   pub each : (m : ℕ) → Contains bounds m ↔ ((m < n) × IsLine m)
 
--- Strictly inside a picture that stands at `from`, the bounds are its own.
+-- Strictly inside a picture at `from`, the bounds are its own.
 abbrev pub AreOwn : List ℕ → ℕ → ℕ → List ℕ → Type 0
 AreOwn bounds from size own = LinesAreOwn (Contains bounds) from size own
 
--- The lowest region that doesn't keep its lines, or none where all do.
+-- The lowest region that doesn't keep its lines, or none if all do.
 abbrev pub IsLinesAnswer : List Rect → List Numbers → Option ℕ → Type 0
 IsLinesAnswer corners parts None = (k : ℕ) → k < length corners → KeepsLines corners parts k
 IsLinesAnswer corners parts (Some k) = IsLinesFault corners parts k

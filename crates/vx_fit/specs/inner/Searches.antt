@@ -1,4 +1,4 @@
--- What the searches through a list of regions answer.
+-- The results of the searches through a list of regions.
 use Rattle.std.specs.Prelude.{ℕ, ◌+◌, ◌*◌, Bool, ◌&&◌, nat_lt, max, min, List}
 use Rattle.std.specs.List.{sum_by}
 use Rattle.vx_fit.specs.declared.placed.Placed.{Placed}

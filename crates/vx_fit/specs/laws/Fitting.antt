@@ -1,5 +1,5 @@
--- What holds of regions that fit together and of their lines: each list has one answer, and the frame that they make up is
--- a layout whose regions are the pictures.
+-- Laws on regions that fit together and on their lines: there is one result for each list, and the frame is a layout whose
+-- regions are the pictures.
 use Rattle.std.specs.Prelude.{◌≡◌, ℕ, ◌+◌, ◌*◌, ◌-◌, ◌<◌, List, All, length, map, min}
 use Rattle.std.specs.Int.{div_ceil}
 use Rattle.std.specs.List.{AllZip, slice_index_or}
@@ -18,19 +18,20 @@ use Rattle.vx_fit.specs.FrameLines.{HaveLines, IsLinesFault}
 use Rattle.vx_fit.specs.Placing.{FitTogether, frame_height, frame_width, in_ctus}
 use Rattle.vx_fit.specs.Sources.{IsSource}
 
--- Regions have one fault at most.
+-- Regions have at most one fault.
 abbrev pub FitFaultIsOne : Type 0
 FitFaultIsOne = (placed : List Placed) (ctb : ℕ) (d e : FitFault) → IsFitFault placed ctb d → IsFitFault placed ctb e → d ≡ e
 
--- Where they fit together they have none.
+-- If they fit together, they have none.
 abbrev pub FittingHasNoFault : Type 0
 FittingHasNoFault = (placed : List Placed) (ctb : ℕ) (e : FitFault) → FitTogether placed ctb → ¬ IsFitFault placed ctb e
 
--- Where they have none they fit together.
+-- If they have none, they fit together.
 abbrev pub FaultlessFits : Type 0
 FaultlessFits = (placed : List Placed) (ctb : ℕ) → ((e : FitFault) → ¬ IsFitFault placed ctb e) → FitTogether placed ctb
 
--- What a region's CTUs have of the frame's samples is the region: they may be cut at the frame's right and lower border alone.
+-- The part of the frame's samples in a region's CTUs is the region: the CTUs may be cut only at the frame's right and lower
+-- border.
 pub record AreItsSamples (placed : List Placed) (ctb : ℕ) (p : Placed) : Type 0 where
   pub left : (in_ctus ctb p).x * ctb ≡ p.x
   pub top : (in_ctus ctb p).y * ctb ≡ p.y
@@ -49,7 +50,7 @@ LinesFaultIsOne =
     (corners : List Rect) (parts : List Numbers) (j k : ℕ)
     → IsLinesFault corners parts j → IsLinesFault corners parts k → j ≡ k
 
--- None is where all keep them.
+-- If all keep them, none is.
 abbrev pub KeepingHasNoFault : Type 0
 KeepingHasNoFault =
     (columns rows : List ℕ) (corners : List Rect) (parts : List Numbers) (k : ℕ)

@@ -12,7 +12,7 @@ pub record AreGroups (groups : List (List Rect)) (slices subpics : List Rect) : 
   pub each : (i : ℕ) (d : Rect) (e : List Rect) → i < length subpics
       → slice_index_or groups i e ≡ slices_of_subpicture slices (slice_index_or subpics i d)
 
--- The slice r was added to each group where it lies in the subpicture.
+-- The slice r was added to each group in whose subpicture it lies.
 pub record Adds (before after : List (List Rect)) (r : Rect) (subpics : List Rect) : Type 0 where
   pub long : length after ≡ length before
   pub each : (i : ℕ) (d : Rect) (e : List Rect) → i < length before
@@ -24,7 +24,7 @@ pub record IsOwner (subpics : List Rect) (r : Rect) (i : ℕ) : Type 0 where
   pub inside : (d : Rect) → fits r (slice_index_or subpics i d) ≡ true
   pub only : (j : ℕ) (d : Rect) → j < length subpics → fits r (slice_index_or subpics j d) ≡ true → j ≡ i
 
--- Numbers of a layout, with the groups that it keeps beside them.
+-- Numbers of a layout, and the groups that are stored with them.
 pub record IsKept (n : Numbers) (groups : List (List Rect)) : Type 0 where
   pub layout : HasLayout n
   pub groups_are : AreGroups groups n.slices n.subpics

@@ -18,11 +18,11 @@ pub record AreNextBounds (bounds next : List ℕ) : Type 0 where
 abbrev pub is_line : List ℕ → ℕ → Bool
 is_line next x = slice_index next x == x
 
--- Whether no bound stands strictly between a and b.
+-- Whether no bound is strictly between a and b.
 abbrev pub none_between : List ℕ → ℕ → ℕ → Bool
 none_between next a b = nat_le b (slice_index next (a + 1))
 
--- Whether the borders of a subpicture stand where tiles allow it: left and right are bounds, and so are top and bottom, or no
+-- Whether the borders of a subpicture are where tiles allow them: left and right are bounds, and so are top and bottom, or no
 -- bound at all passes through.
 unfoldable pub splits_by : List ℕ → List ℕ → Rect → Bool
 splits_by columns rows s =

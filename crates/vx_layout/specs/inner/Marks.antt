@@ -9,7 +9,7 @@ use Rattle.vx_layout.specs.Rects.{holds}
 unfoldable pub mark_at : Grid → ℕ → ℕ → ℕ
 mark_at g x y = slice_index g.marks.items (y * g.width + x)
 
--- After is before, of the same size, with the mark at each CTU of these columns and rows, where no mark stood.
+-- `after` is `before`, with the same size and the mark at each CTU of these columns and rows, where no mark was before.
 pub record Paints (before after : Grid) (left right top bottom mark : ℕ) : Type 0 where
   pub same_width : after.width ≡ before.width
   pub same_height : after.height ≡ before.height
@@ -47,7 +47,7 @@ pub record IsBare (g : Grid) : Type 0 where
   pub in_picture : (x < g.width) × (y < g.height)
   pub unmarked : mark_at g x y ≡ 0
 
--- The first k rectangles were painted at the CTU, each with its place from 1 on: 0 where none holds it, else the only one that
+-- The first k rectangles were painted at the CTU, each with its number from 1: 0 if none contains it, otherwise the only one that
 -- does.
 pub record IsMark (rects : List Rect) (k x y mark : ℕ) : Type 0 where
   pub none : mark ≡ 0 → count_by (λ r. holds r x y) (take k rects) ≡ 0

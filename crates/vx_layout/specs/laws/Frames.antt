@@ -1,5 +1,5 @@
--- What holds of frames that are composed of pictures. `regions` are the regions of a frame, and `pictures` what stands in them,
--- by their index: of each picture its slices, or in the laws on whole frames its numbers.
+-- Laws on frames that are composed of pictures. `regions` are the regions of a frame, and `pictures` the contents of the regions,
+-- by index: for each picture its slices, or in the laws on whole frames its numbers.
 use Rattle.std.specs.Prelude.{◌≡◌, ℕ, ◌+◌, ◌-◌, ◌<◌, ◌≤◌, ◌↔◌, ◌⊎◌, true, List, All, Contains, ◌++◌, length, map, take}
 use Rattle.std.specs.List.{AllPairs, AllZip, Any, slice_index_or}
 use Rattle.vx_layout.specs.declared.numbers.Numbers.{Numbers}
@@ -12,11 +12,11 @@ use Rattle.vx_layout.specs.Rects.{CoversOnce, IsPart, Precedes, fits, in_order, 
 use Rattle.vx_layout.specs.Regions.{counted_from, cut_bounds, moved_to, region_of}
 use Rattle.vx_layout.specs.Shapes.{AreListable, StandTogether}
 
--- The regions that lie in one tile stand next to one another in the list.
+-- The regions that lie in one tile are next to each other in the list.
 abbrev pub TilesHoldRuns : List ℕ → List ℕ → List Rect → Type 0
 TilesHoldRuns columns rows regions = (t : Rect) → IsTile columns rows t → StandTogether regions t
 
--- s begins at a tile row, or stands directly below r with the same left and right borders.
+-- s begins at a tile row, or is directly below r with the same left and right borders.
 abbrev pub BeginsOrFollows : List ℕ → Rect → Rect → Type 0
 BeginsOrFollows rows r s = Contains rows s.y ⊎ (SameSides r s × (r.y + r.h ≡ s.y))
 
@@ -25,8 +25,8 @@ abbrev pub StandInRuns : List ℕ → List Rect → Type 0
 StandInRuns rows regions =
     (k : ℕ) (d : Rect) → k + 1 < length regions → BeginsOrFollows rows (slice_index_or regions k d) (slice_index_or regions (k + 1) d)
 
--- Then the regions of one tile stand next to one another, where they cover a frame once, in order, and their borders split the
--- tiles well.
+-- Then the regions of one tile are next to each other, if they cover a frame once, in order, and their borders split the tiles
+-- well.
 abbrev pub RunsFillTiles : Type 0
 RunsFillTiles =
     (columns rows : List ℕ) (regions : List Rect) → All (IsPart (last columns) (last rows)) regions
@@ -43,13 +43,13 @@ SplitByBorders =
     (columns rows : List ℕ) (s : Rect) → Rises columns → Rises rows → IsPart (last columns) (last rows) s
     → SplitsWell columns rows s ↔ SplitsAtLines columns rows s
 
--- Where the bounds inside a region are a picture's own, so are the bounds cut to the region.
+-- If the bounds inside a region are a picture's own, then so are the bounds cut to the region.
 abbrev pub CutBoundsAreOwn : Type 0
 CutBoundsAreOwn =
     (bounds own : List ℕ) (from : ℕ) → Rises bounds → Rises own → 0 < last own → SameInside bounds from own
     → cut_bounds bounds from (last own) ≡ own
 
--- The first of rectangles that cover a picture once and stand in order begins it, where it is a part of it.
+-- The first of rectangles that cover a picture once and are in order begins it, if it is a part of it.
 abbrev pub FirstBegins : Type 0
 FirstBegins =
     (rects : List Rect) (w h : ℕ) (d : Rect) → CoversOnce rects w h → AllPairs Precedes rects → 0 < length rects
@@ -61,7 +61,7 @@ LastEnds =
     (rects : List Rect) (w h : ℕ) (d : Rect) → CoversOnce rects w h → AllPairs Precedes rects → 0 < length rects
     → IsPart w h (slice_index_or rects (length rects - 1) d) → Ends w h (slice_index_or rects (length rects - 1) d)
 
--- The slices of a picture that stands in a region fill it.
+-- The slices of a picture that is placed in a region fill it.
 abbrev pub PlacedFills : Type 0
 PlacedFills =
     (columns rows : List ℕ) (region : Rect) (picture : Numbers) → IsPlaced columns rows region picture
@@ -74,7 +74,7 @@ FillsByIndex =
     → ((k : ℕ) (d : Rect) (e : List Rect) → k < length regions → Fills (slice_index_or regions k d) (slice_index_or pictures k e))
     → AllZip Fills regions pictures
 
--- So do pictures that stand in them.
+-- So do pictures that are placed in them.
 abbrev pub PlacedByIndex : Type 0
 PlacedByIndex =
     (columns rows : List ℕ) (regions : List Rect) (pictures : List Numbers) → length regions ≡ length pictures
@@ -82,13 +82,13 @@ PlacedByIndex =
     → IsPlaced columns rows (slice_index_or regions k d) (slice_index_or pictures k e))
     → AllZip (IsPlaced columns rows) regions pictures
 
--- The frame's slices cover it once where the regions do.
+-- The frame's slices cover it once if the regions do.
 abbrev pub FrameSlicesCoverOnce : Type 0
 FrameSlicesCoverOnce =
     (regions : List Rect) (pictures : List (List Rect)) (w h : ℕ) → CoversOnce regions w h → AllZip Fills regions pictures
     → CoversOnce (frame_slices regions pictures) w h
 
--- The frame's slices stand in order where the regions do, and the slices of each picture.
+-- The frame's slices are in order if the regions are, and the slices of each picture.
 abbrev pub FrameSlicesStandInOrder : Type 0
 FrameSlicesStandInOrder =
     (regions : List Rect) (pictures : List (List Rect)) → AllPairs Precedes regions → AllZip Fills regions pictures
@@ -131,7 +131,7 @@ FrameSlicesGrow =
     → frame_slices (take (k + 1) regions) (take (k + 1) pictures)
     ≡ frame_slices (take k regions) (take k pictures) ++ map (moved_to (slice_index_or regions k d)) (slice_index_or pictures k e)
 
--- A frame is a layout where the pictures stand in its regions, and these cover it and stand in order.
+-- A frame is a layout if the pictures are placed in its regions, and these cover it and are in order.
 abbrev pub FrameIsLayout : Type 0
 FrameIsLayout =
     (columns rows : List ℕ) (regions : List Rect) (pictures : List Numbers)
@@ -147,7 +147,7 @@ FrameHasPictures =
     → k < length regions
     → region_of (frame_of columns rows regions pictures) k ≡ slice_index_or pictures k d
 
--- It is a layout as one subpicture too, where it has a region.
+-- It is also a layout as one subpicture, if it has a region.
 abbrev pub FrameAloneIsLayout : Type 0
 FrameAloneIsLayout =
     (columns rows : List ℕ) (regions : List Rect) (pictures : List Numbers) → Rises columns → Rises rows
@@ -155,7 +155,7 @@ FrameAloneIsLayout =
     → AllZip (IsPlaced columns rows) regions pictures
     → IsLayout (with_one_subpic (frame_of columns rows regions pictures))
 
--- Its slices can be listed tile by tile where each picture's can, and the regions of one tile stand next to one another.
+-- Its slices can be listed tile by tile if each picture's can, and the regions of one tile are next to each other.
 abbrev pub FrameIsListable : Type 0
 FrameIsListable =
     (columns rows : List ℕ) (regions : List Rect) (pictures : List Numbers) → Rises rows

@@ -1,4 +1,4 @@
--- What holds of all layouts and of all tile bounds.
+-- Laws on all layouts and on all tile bounds.
 use Rattle.std.specs.Prelude.{◌≡◌, ℕ, ◌+◌, ◌<◌, ◌≤◌, ◌↔◌, true, List, ◌∷◌, All, Contains, cond, count_by, length, map, sum}
 use Rattle.vx_layout.specs.declared.numbers.Numbers.{Numbers}
 use Rattle.vx_layout.specs.Bounds.{Rises, bounds_of, last, sizes_between, sums_after, tile_sizes}
@@ -41,11 +41,11 @@ SlicesRunRightAndDown =
     (n : Numbers) (i j x y v u : ℕ) → IsLayout n → i < length (in_order n.slices n.subpics) → j < length (in_order n.slices n.subpics)
     → holds (ordered_at n i) x y ≡ true → holds (ordered_at n j) v u ≡ true → x ≤ v → y ≤ u → i ≤ j
 
--- The first slice of the first subpicture begins the picture, where it holds a CTU.
+-- The first slice of the first subpicture begins the picture, if it has a CTU.
 abbrev pub FirstSliceBegins : Type 0
 FirstSliceBegins = (n : Numbers) → HasLayout n → HasCtu (slice_at n 0 0) → Begins (slice_at n 0 0)
 
--- The last slice of the last subpicture ends the picture, where it holds a CTU.
+-- The last slice of the last subpicture ends the picture, if it has a CTU.
 abbrev pub LastSliceEnds : Type 0
 LastSliceEnds =
     (n : Numbers) (k m : ℕ) → HasLayout n → k + 1 ≡ length n.subpics → m + 1 ≡ length (slices_in n k) → HasCtu (slice_at n k m)
@@ -70,7 +70,7 @@ RegionKeepsCtus =
     → ctus n.columns n.rows (slice_at n k m)
     ≡ map (moved (subpic_at n k).x (subpic_at n k).y) (ctus (region_of n k).columns (region_of n k).rows (slice_at (region_of n k) 0 m))
 
--- A region's slices can be listed tile by tile where a layout's can.
+-- A region's slices can be listed tile by tile if a layout's can.
 abbrev pub RegionIsListable : Type 0
 RegionIsListable =
     (n : Numbers) (k : ℕ) → HasLayout n → k < length n.subpics → AreListable n.columns n.rows n.slices

@@ -1,4 +1,4 @@
--- What a picture header has only where the SPS enables it (H.266 7.3.2.8).
+-- What a picture header has only if the SPS enables it (H.266 7.3.2.8).
 use Rattle.std.specs.Prelude.{◌≡◌, ℕ, false, List, []}
 use Rattle.vx_bits.specs.declared.list.Item.{Item}
 use Rattle.vx_table.specs.Loaded.{number}
@@ -10,13 +10,12 @@ use Rattle.vx_ph.specs.Filter.{filter_of}
 use Rattle.vx_ph.specs.InForce.{in_force, structures}
 use Rattle.vx_ph.specs.Picture.{IsHeader}
 
--- Where this field of the SPS is 0, that one of the header is 0.
+-- If this field of the SPS is 0, then that one of the header is 0.
 abbrev pub IsOff : (enabling field : ℕ) → Type 0
 IsOff enabling field = (sps pps : List Item) (header : PictureHeader) → IsHeader (structures sps) (in_force sps pps) header
     → is_set (number sps enabling) ≡ false → number header.fields field ≡ 0
 
--- Luma mapping with chroma scaling, scaling lists, and the scaling of chroma residuals, which is there only where there is
--- chroma.
+-- Luma mapping with chroma scaling, scaling lists, and the scaling of chroma residuals, which is present only if there is chroma.
 abbrev pub NoLmcs : Type 0
 NoLmcs = IsOff sps_fields.sps_lmcs_enabled_flag ph.ph_lmcs_enabled_flag
 

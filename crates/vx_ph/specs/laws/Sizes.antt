@@ -1,4 +1,4 @@
--- How long a picture header is.
+-- The length of a picture header.
 use Rattle.std.specs.Prelude.{◌≡◌, ℕ, ◌≤◌, List, length, slice_get, slice_index, Some}
 use Rattle.vx_bits.specs.declared.list.Item.{Item}
 use Rattle.vx_table.specs.Scope.{most}
@@ -31,6 +31,6 @@ abbrev pub SpellingIsShort : Type 0
 SpellingIsShort = (table : RplTable) (s : List ℕ) (header : PictureHeader) (bytes : List ℕ) → IsBounded table s → IsPictureHeaderUnit table s header bytes
     → length bytes ≤ header_limit
 
--- Sets are such, where the SPS asks for so few extra bits.
+-- Sets are bounded in this way if the SPS has few enough extra bits.
 abbrev pub SetsAreBounded : Type 0
 SetsAreBounded = (sps pps : List Item) → extra_ph_bits_of sps ≤ 32 → IsBounded (structures sps) (in_force sps pps)

@@ -1,4 +1,4 @@
--- What a list of adaptation parameter sets keeps to.
+-- The invariants of a list of adaptation parameter sets.
 use Rattle.std.specs.Prelude.{List, Option, IfSome}
 use Rattle.std.specs.List.{AllByRecursion}
 use Rattle.vx_aps.specs.declared.aps.Aps.{Aps}

@@ -1,4 +1,4 @@
--- What is answered of numbers of a layout.
+-- The answer for the numbers of a layout.
 use Rattle.std.specs.Prelude.{◌≡◌, ℕ, Result, Ok, Err}
 use Rattle.vx_bits.specs.declared.refusal.ReadError.{ReadError}
 use Rattle.vx_bits.specs.declared.refusal.ReadError.TheVariants.{Memory, Refused}

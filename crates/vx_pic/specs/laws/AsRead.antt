@@ -1,4 +1,4 @@
--- The readers of H.266 in the words of the contracts of readers, of which one may have run out of memory.
+-- The readers of H.266 related to the contracts of readers, one of which may have run out of memory.
 use Rattle.std.specs.Prelude.{◌≡◌, ◌↔◌, ℕ, Bool, List, [], Result, Ok, Err}
 use Rattle.vx_bits.specs.declared.list.Item.{Item}
 use Rattle.vx_bits.specs.declared.refusal.Refusal.{Refusal}
@@ -24,7 +24,7 @@ use Rattle.vx_pic.specs.PictureLayout.{IsLayoutAnswer}
 use Rattle.vx_pic.specs.UnderSets.{at_slice_of}
 use Rattle.vx_pic.specs.H266.{header_place, form_in, IsSlice, AreOfH266}
 
--- The items that a reader of a form answers from a place on, or its refusal.
+-- The items that a reader of a form returns from a place on, or its refusal.
 abbrev pub AnswersAsRead : {A : Type 0} → Form A → Place → Result (List Item) Refusal → Type 0
 AnswersAsRead form place (Ok items) = (new : Place) × Reads {B = Unit {0}} form place [] (Ok tt) new items
 AnswersAsRead form place (Err r) = (new : Place) × (items : List Item) × Reads {B = Unit {0}} form place [] (Err (Refused r)) new items
@@ -38,7 +38,7 @@ abbrev pub IsSliceAsRead : ℕ → Begun → List ℕ → Result SliceHeader Ref
 IsSliceAsRead nal_type b unit (Ok h) = IsSlice nal_type b unit h
 IsSliceAsRead nal_type b unit (Err r) = ReadsSlice (at_slice_of nal_type b) (rbsp_of unit) (Err (Refused r))
 
--- All answers are those that the contracts of readers allow them, lack of memory aside.
+-- All answers are those that the contracts of readers allow, apart from lack of memory.
 pub record AnswerAsReaders (R : Readers) : Type 0 where
   pub vps : (rbsp : List ℕ) → ReadsValue vps rbsp (as_read (R.vps rbsp))
   pub sps : (rbsp : List ℕ) → ReadsValue sps_form rbsp (as_read (R.sps rbsp))

@@ -1,4 +1,4 @@
--- What the definition of pictures comes to, whatever sets and headers are read as.
+-- What follows from the definition of pictures, whatever sets and headers are read as.
 use Rattle.std.specs.Prelude.{◌≡◌, ℕ, suc, ◌<◌, ◌≤◌, Bool, true, false, List, [], ◌∷◌, ◌++◌, length, take, drop, reverse, flat_map, All}
 use Rattle.std.specs.Prelude.{slice_get, Option, Some, None}
 use Rattle.vx_sei.specs.declared.message.Message.{Message}
@@ -19,12 +19,12 @@ ReadingGoesOn = (R : Readers) (before : List Reading) (units more : List (List �
     → read_on R before (units ++ more)
     ≡ unless_refused (read_on R before units).refusal (read_on R before units).before (λ after. read_on R after more)
 
--- Pictures that are done stay, however the units go on.
+-- If units go on, then pictures that are done remain.
 abbrev pub PicturesStay : Type 0
 PicturesStay = (R : Readers) (units more : List (List ℕ))
     → (later : List Picture) × (pictures_of R (units ++ more) ≡ later ++ pictures_of R units)
 
--- A plan that is written where a stream can go on is read again.
+-- If a plan is written where a stream can go on, then it is read again.
 abbrev pub PlansReadAgain : Type 0
 PlansReadAgain = (R : Readers) → PlanReadsAgain R
 
@@ -39,19 +39,19 @@ PicturesAreUnique = (R : Readers) (b : List ℕ) (all : Bool) (ps qs : List Pict
 abbrev pub PicturesExist : Type 0
 PicturesExist = (R : Readers) (b : List ℕ) (all : Bool) → (ps : List Picture) × (e : Option Ending) × ArePictures R b all ps e
 
--- Pictures that are seen stay, however the bytes go on.
+-- If bytes go on, then pictures that were seen remain.
 abbrev pub SeenPicturesStay : Type 0
 SeenPicturesStay = (R : Readers) (b more : List ℕ) (all : Bool) (ps qs : List Picture) (e : Option Ending)
     → AreSeenPictures R b ps → ArePictures R (b ++ more) all qs e → (later : List Picture) × (qs ≡ later ++ ps)
 
--- Units that are written one after another, and can stand in a stream, have in it the pictures of the list of units.
+-- If units are written one after another, and can stand in a stream, then it has the pictures of the list of units.
 abbrev pub WrittenHasPictures : Type 0
 WrittenHasPictures = (R : Readers) (units : List (List ℕ)) → All CanStand units
     → ArePictures R (written units) true (pictures_of R units) (ending_by true None (read_on R [] units))
 
 -- ---- places
 
--- What stands at a place gives this, and nothing later does. Lists have the latest at place 0.
+-- The reading at a place gives this, and nothing later does. Lists have the latest at place 0.
 pub record IsLatestAt {A : Type 0} (gives : Reading → Option A) (before : List Reading) (n : ℕ) (a : A) : Type 0 where
   pub reading : Reading
   pub here : slice_get before n ≡ Some reading
@@ -74,14 +74,14 @@ pub record IsPrevTid0At (earlier : List Picture) (n : ℕ) (p : Picture) : Type 
   pub can : is_tid0_picture p ≡ true
   pub later : (k : ℕ) (q : Picture) → k < n → slice_get earlier k ≡ Some q → is_tid0_picture q ≡ false
 
--- PrevPicOrderCntLsb and prevPicOrderCntMsb are those of that picture, and 0 where there is none.
+-- PrevPicOrderCntLsb and prevPicOrderCntMsb are those of that picture, and 0 if there is none.
 abbrev pub PreviousByPlaces : Type 0
 PreviousByPlaces =
     ((earlier : List Picture) (n : ℕ) (p : Picture) → IsPrevTid0At earlier n p → previous earlier ≡ counts_of p)
     × ((earlier : List Picture) → ((k : ℕ) (q : Picture) → slice_get earlier k ≡ Some q → is_tid0_picture q ≡ false)
     → previous earlier ≡ no_counts)
 
--- No slice is among the last n, and what stands before these is one, where anything does.
+-- No slice is among the last n, and the one before these is a slice, if there is one.
 pub record IsSinceSlice (before : List Reading) (n : ℕ) : Type 0 where
   pub within : n ≤ length before
   pub later : (k : ℕ) (r : Reading) → k < n → slice_get before k ≡ Some r → is_slice r ≡ false
@@ -108,7 +108,7 @@ is_start (header_read b) = true
 is_start (first_slice b k s) = true
 is_start _ = false
 
--- The picture's first slice stands at this place, and no other picture began later: its slices are that one and all further ones, in
+-- The picture's first slice is at this place, and no other picture began later: its slices are that one and all further ones, in
 -- the order of the units.
 pub record IsPictureAt (before : List Reading) (n : ℕ) (p : Picture) : Type 0 where
   pub slice : Slice
@@ -117,7 +117,7 @@ pub record IsPictureAt (before : List Reading) (n : ℕ) (p : Picture) : Type 0 
   pub earlier : p.before ≡ drop (suc n) before
   pub slices : p.slices ≡ slice ∷ flat_map further_in (reverse (take n before))
 
--- The picture that was begun last, where a slice of it came, is that of the last first slice, after which no picture began.
+-- The picture that was begun last, if it has a slice, is that of the last first slice, after which no picture began.
 abbrev pub CurrentByPlaces : Type 0
 CurrentByPlaces = (before : List Reading) (p : Picture)
     → (current before ≡ going p → (n : ℕ) × IsPictureAt before n p)

@@ -30,7 +30,7 @@ pub record IsSpan (span : Span) (group : Group) : Type 0 where
   pub wide_is : span.wide ≡ wide_of group
   pub high_is : span.high ≡ high_of group
 
--- What is written of how far on the next group is, where one is left.
+-- The step to the next group, if there is one.
 abbrev pub delta_behind : Bool → ℕ → List Group → List Item
 delta_behind deltas t [] = []
 delta_behind deltas t (next ∷ more) = delta_items deltas t (first_tile_of next)

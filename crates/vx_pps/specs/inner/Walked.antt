@@ -1,4 +1,4 @@
--- A walk over a form that may also end where memory runs out.
+-- A walk over a form that may also end because memory runs out.
 use Rattle.std.specs.Prelude.{ℕ, ℤ, Result, Ok, Err}
 use Rattle.vx_pps.specs.declared.halt.Halt.{Halt}
 use Rattle.vx_pps.specs.declared.halt.Halt.TheVariants.{Memory, Refused}

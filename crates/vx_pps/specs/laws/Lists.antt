@@ -1,4 +1,4 @@
--- What slices that a list can name come to.
+-- Laws on slices that a list can describe.
 use Rattle.std.specs.Prelude.{◌≡◌, ℕ, ◌+◌, ◌-◌, ◌^◌, ◌<◌, ◌≤◌, Bool, true, false, List, ◌∷◌, [], length, Some}
 use Rattle.vx_layout.specs.declared.rect.Rect.{Rect}
 use Rattle.vx_layout.specs.Bounds.{Rises, bounds_of, last, sizes_between}
@@ -15,16 +15,16 @@ use Rattle.vx_pps.specs.Written.{Gives, list_items, tile_size_items}
 abbrev pub ListsFallIntoGroups : Type 0
 ListsFallIntoGroups = (g : Tiles) (slices : List Rect) → IsList g slices → 0 < length slices → InGroups g true slices
 
--- Where they are one or two, without.
+-- If they are one or two, without.
 abbrev pub FewFallIntoGroups : Type 0
 FewFallIntoGroups = (g : Tiles) (slices : List Rect) → IsList g slices → 0 < length slices → length slices ≤ 2 → InGroups g false slices
 
--- The slices of a layout of one subpicture are such slices, where a list can name them.
+-- The slices of a layout of one subpicture are such slices, if a list can describe them.
 abbrev pub LayoutsAreLists : Type 0
 LayoutsAreLists =
     (g : Tiles) (slices : List Rect) → HasLayout (picture_of g slices) → AreListable g.columns g.rows slices → IsList g slices
 
--- What is written of groups that can be listed gives their slices, where they are so many, less 1.
+-- What is written of groups that can be listed gives their slices, if this is their number, less 1.
 abbrev pub ListGivesSlices : Type 0
 ListGivesSlices =
     (g : Tiles) (last : ℕ) (deltas : Bool) (group : Group) (groups : List Group) → IsGrid g → last < 1000 → first_tile_of group ≡ 0
@@ -38,7 +38,7 @@ SlicesAreReadBack =
     → (groups : InGroups g true slices)
     × Gives (list_from g last_slice true) (list_items g true (groups.group ∷ groups.groups)) (Some slices)
 
--- Of one or two slices where tile indices aren't spelled.
+-- For one or two slices if tile indices aren't coded.
 abbrev pub FewAreReadBack : Type 0
 FewAreReadBack =
     (g : Tiles) (slices : List Rect) (last_slice : ℕ) → IsList g slices → length slices ≡ last_slice + 1 → last_slice ≤ 1

@@ -1,4 +1,4 @@
--- What holds of picture parameter sets: how they are spelled, and what their kept fields depend on.
+-- Laws on picture parameter sets: how they are spelled, and what their kept fields depend on.
 use Rattle.std.specs.Prelude.{◌≡◌, ◌⊎◌, ◌+◌, ◌^◌, ◌<◌, ◌≤◌, ◌&&◌, ℕ, Bool, not, true, false, List, [], ◌∷◌, ◌++◌, length}
 use Rattle.std.specs.Prelude.{All, IfSome, is_some, IsTrue, Result, Ok, Err, Some}
 use Rattle.std.specs.Int.{div_ceil}
@@ -55,8 +55,8 @@ pub record StarsTellKept : Type 0 where
   pub division : (whole width height : ℕ) → EachField (λ cell. cell.kept ≡ false) (partition whole width height)
   pub behind : KeepsOnly [] kept_pps_fields (sections_form after_slices)
 
--- They depend on one another, and on no other field but pps_no_pic_partition_flag: where it is 1, those that say what stands in
--- picture headers are absent. All others depend on one another alone.
+-- They depend only on one another, and on pps_no_pic_partition_flag: if it is 1, those that say what is in picture headers are
+-- absent. All others depend only on one another.
 pub record KeptDependsOnKept : Type 0 where
   pub before : DependsOnlyOn [] kept_pps_fields (sections_form before_tiles)
   pub behind : DependsOnlyOn (pps.pps_no_pic_partition_flag ∷ [])
@@ -94,7 +94,7 @@ TilesAreInLimits =
 
 -- ---- what a layout is made of
 
--- Bounds of so many CTUs, as a layout takes them: there are two at least, and not more CTUs than a picture has.
+-- Bounds of a number of CTUs, as a layout requires them: there are at least two, and not more CTUs than a picture has.
 pub record AreTileBounds (bounds : List ℕ) (total : ℕ) : Type 0 where
   pub several : 2 ≤ length bounds
   pub rises : Rises bounds
@@ -112,7 +112,7 @@ pub record IsWide (samples : ℕ) : Type 0 where
   pub some : 0 < samples
   pub most : samples ≤ 16384
 
--- The size of a CTU in luma samples (CtbSizeY), where the picture is partitioned.
+-- The size of a CTU in luma samples (CtbSizeY), if the picture is partitioned.
 abbrev pub pps_ctb_size : List Item → ℕ
 pps_ctb_size items = 2 ^ (number items pps.pps_log2_ctu_size_minus5 + 5)
 
@@ -127,8 +127,8 @@ rows_in items = div_ceil (number items pps.pps_pic_height_in_luma_samples) (pps_
 abbrev pub is_single : List Item → Bool
 is_single items = is_set (number items pps.pps_single_slice_per_subpic_flag)
 
--- A set tells the size of a picture; of a partitioned one its tiles, and its slices unless each subpicture is one; of another
--- neither.
+-- A set determines the size of a picture; for a partitioned one its tiles, and its slices unless each subpicture is one; for
+-- another neither.
 pub record TellsPartition (items : List Item) : Type 0 where
   pub width : IsWide (number items pps.pps_pic_width_in_luma_samples)
   pub height : IsWide (number items pps.pps_pic_height_in_luma_samples)
@@ -142,7 +142,7 @@ pub record TellsPartition (items : List Item) : Type 0 where
 abbrev pub SetsTellPartitions : Type 0
 SetsTellPartitions = (items : List Item) → ArePpsItems items → TellsPartition items
 
--- The slices that a slice list names can be listed again, where they cover the picture once.
+-- The slices of a slice list can be listed again, if they cover the picture once.
 abbrev pub ReadSlicesAreListable : Type 0
 ReadSlicesAreListable =
     (items : List Item) (slices : List Rect) → ArePpsItems items → slice_list_of items ≡ Some slices

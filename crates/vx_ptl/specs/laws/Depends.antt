@@ -1,4 +1,4 @@
--- What the structures read of the scope at which they are read or written.
+-- The numbers of the scope that the structures depend on when they are read or written.
 use Rattle.std.specs.Prelude.{List, [], ◌∷◌}
 use Rattle.vx_fields.specs.declared.sps.TheConstants.{sps_max_sublayers_minus1, sps_sublayer_dpb_params_flag}
 use Rattle.vx_fields.specs.declared.sps.TheConstants.{sps_sublayer_cpb_params_present_flag, sps_timing_hrd_params_present_flag}
@@ -29,7 +29,7 @@ SublayerTimingDepends = ReadsOnly
     ∷ general_vcl_hrd_params_present_flag ∷ general_du_hrd_params_present_flag ∷ hrd_cpb_cnt_minus1 ∷ [])
     SUBLAYER_TIMING
 
--- The two where a parameter set says that they are there.
+-- The two, if a parameter set says that they are present.
 abbrev pub timing_if_present : List Section
 timing_if_present = always NO_TIMING ∷ provided (Plain (Latest sps_timing_hrd_params_present_flag)) TIMING
     ∷ provided (Plain (Latest sps_timing_hrd_params_present_flag)) SUBLAYER_TIMING ∷ []

@@ -1,4 +1,4 @@
--- How many entries a structure has, from its items.
+-- The number of entries of a structure, from its items.
 use Rattle.std.specs.Prelude.{◌≡◌, ℕ, ℤ, Bool, List, length, count_by, slice_index}
 use Rattle.vx_bits.specs.declared.list.Item.{Item}
 use Rattle.vx_table.specs.Scope.{fresh}
@@ -13,11 +13,11 @@ use Rattle.vx_rpl.specs.HeaderLists.{behind_next}
 use Rattle.vx_rpl.specs.Lists.{is_long}
 use Rattle.vx_rpl.specs.Resolved.{structure_of}
 
--- The entries that a structure's items come to.
+-- The entries that a structure's items determine.
 abbrev pub entries_spelled : Bool → List Item → List RefEntry
 entries_spelled weighted items = (structure_of weighted (behind_next num_ref_entries items)).entries
 
--- They are as many as num_ref_entries says, and so many of them are long-term ones as a walk counts.
+-- They are as many as num_ref_entries, and as many of them are long-term ones as a walk counts.
 abbrev pub EntriesAreCounted : Type 0
 EntriesAreCounted = (weighted : Bool) (s : List ℕ) (values : List ℤ) (end : List ℕ) → length s ≡ length fresh
     → Follows (form_of REF_PIC_LIST_STRUCT s) values end

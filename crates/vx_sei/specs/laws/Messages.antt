@@ -1,4 +1,4 @@
--- What the definition of an SEI RBSP comes to, apart from any program.
+-- What follows from the definition of an SEI RBSP, for any program.
 use Rattle.std.specs.Prelude.{◌≡◌, ℕ, ◌≤◌, List, [], ◌∷◌, ◌++◌, All, IsTrue, length}
 use Rattle.vx_bits.specs.Codes.{EndsInNoZero}
 use Rattle.vx_sei.specs.declared.message.Message.{Message}

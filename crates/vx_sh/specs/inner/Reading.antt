@@ -1,4 +1,4 @@
--- What passing over a part answers, with the scope that it leaves, and what reading the fields of a slice header answers.
+-- The answer of passing over a part, with the scope that it leaves, and the answer of reading the fields of a slice header.
 use Rattle.std.specs.Prelude.{◌≡◌, ℕ, ℤ, List, Result, Ok, Err}
 use Rattle.vx_bits.specs.declared.list.Item.{Item}
 use Rattle.vx_bits.specs.declared.refusal.ReadError.{ReadError}

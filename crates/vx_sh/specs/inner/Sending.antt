@@ -1,4 +1,4 @@
--- What sending the fields of a slice header does, and the scopes that a sender keeps.
+-- What sending the fields of a slice header does, and the scopes that a sender stores.
 use Rattle.std.specs.Prelude.{◌≡◌, ◌≤◌, ℕ, Bool, List, [], ◌∷◌, ◌++◌, length, slice_index, Result}
 use Rattle.vx_bits.specs.declared.list.Item.{Item}
 use Rattle.vx_table.specs.declared.writer.SpellError.{SpellError}
@@ -23,14 +23,14 @@ pub record AreScopes (n : SliceNumbers) (sets slice : List ℕ) : Type 0 where
   pub few : length n.ids.now ≤ 1000
   pub one_each : length n.ids.now ≡ length n.layout.now.subpics
 
--- What is used of LMCS and scaling lists, where a slice's scope has them on.
+-- What is used of LMCS and scaling lists, if a slice's scope has them on.
 abbrev pub uses_at : List ℕ → (uses_lmcs uses_scaling : Bool) → List Item
 uses_at slice uses_lmcs uses_scaling =
     where_so (is_set (slice_index slice ph_lmcs_enabled_flag)) (item sh_lmcs_used_flag (one_if uses_lmcs) ∷ [])
     ++ where_so (is_set (slice_index slice ph_explicit_scaling_list_enabled_flag))
     (item sh_explicit_scaling_list_used_flag (one_if uses_scaling) ∷ [])
 
--- The slice header that has these stated items, and of the other fields the source's, is written, where there is one.
+-- The slice header that has these new items, and the source's of the other fields, is written, if there is one.
 abbrev pub SendsApart : At → List Item → List Item → Result (Unit {0}) SpellError → List Bool → Type 0
 SendsApart n stated source result bits = (items : List Item)
     → (is : IsRewritten (apart_form n.table n.ids n.layout n.slice) STARRED stated (other_items STARRED source) items)

@@ -1,4 +1,4 @@
--- What writing a part answers of values that are given, and what writing the fields of a slice header does.
+-- The answer of writing a part with given values, and what writing the fields of a slice header does.
 use Rattle.std.specs.Prelude.{◌≡◌, ℕ, ℤ, Bool, List, ◌++◌, length, Result, Ok, Err}
 use Rattle.vx_bits.specs.declared.list.Item.{Item}
 use Rattle.vx_table.specs.declared.writer.SpellError.{SpellError}

@@ -1,4 +1,4 @@
--- What follows from what the fields of a slice header depend on, in the form in which it is used.
+-- What follows from the dependencies of the fields of a slice header, in the form in which it is used.
 use Rattle.std.specs.Prelude.{ℕ, ℤ, List, ◌++◌, Result}
 use Rattle.vx_bits.specs.declared.list.Item.{Item}
 use Rattle.vx_bits.specs.declared.refusal.ReadError.{ReadError}

@@ -1,4 +1,4 @@
--- What a slice header has only where the SPS enables it (H.266 7.3.7).
+-- What a slice header has only if the SPS enables it (H.266 7.3.7).
 use Rattle.std.specs.Prelude.{◌≡◌, ℕ, ℤ, false, List, []}
 use Rattle.vx_bits.specs.declared.list.Item.{Item}
 use Rattle.vx_table.specs.Loaded.{number}

@@ -11,7 +11,7 @@ use Rattle.vx_ph.specs.Filter.{filter_of}
 use Rattle.vx_sh.specs.Value.{AreFields}
 use Rattle.vx_sh.specs.Whole.{At}
 
--- It goes through under the sets of the slice, where it stands there.
+-- It goes through under the sets of the slice, if it is in the slice header.
 abbrev pub SliceHasFilter : Type 0
 SliceHasFilter = (n : At) (fields : List Item) (inside : List ℤ) → AreFields n fields inside → length n.slice ≡ 1024
     → is_set (slice_index n.slice sps_alf_enabled_flag) ≡ true → slice_index n.slice pps_alf_info_in_ph_flag ≡ 0

@@ -1,4 +1,4 @@
--- How long a slice header is.
+-- The length of a slice header.
 use Rattle.std.specs.Prelude.{◌≡◌, ℕ, ◌≤◌, List, length, slice_index}
 use Rattle.vx_bits.specs.declared.list.Item.{Item}
 use Rattle.vx_table.specs.Loaded.{number}
@@ -17,8 +17,8 @@ use Rattle.vx_sh.specs.Whole.{At, points_at, num_slices_in_subpic}
 abbrev pub points_limit : ℕ
 points_limit = 65536
 
--- What is in force at a slice header: sets at which a picture header is short, numbers of 32 bits, few extra bits, few active entries
--- where none are counted, and few entry points.
+-- What is in force at a slice header: sets under which a picture header is short, numbers of 32 bits, few extra bits, few active
+-- entries by default, and few entry points.
 pub record IsBounded (n : At) : Type 0 where
   pub sets : ph.IsBounded n.table n.sets
   pub long : length n.slice ≡ 1024
@@ -39,8 +39,8 @@ abbrev pub SpellingIsShort : Type 0
 SpellingIsShort = (n : At) (fields others : List Item) (bytes : List ℕ) → IsBounded n → IsSliceHeaderSpelling n fields others bytes
     → length bytes ≤ header_limit
 
--- Sets, a picture header and a layout that ask for so little: 32 extra bits, 15 active entries where none are counted, and so many
--- entry points a slice at most.
+-- Sets, a picture header and a layout with small numbers: at most 32 extra bits, 15 active entries by default, and this number of
+-- entry points a slice.
 pub record AskLittle (n : SliceNumbers) : Type 0 where
   pub ph_bits : extra_ph_bits_of n.sps.now ≤ 32
   pub sh_bits : extra_sh_bits_of n.sps.now ≤ 32

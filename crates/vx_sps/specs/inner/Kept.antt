@@ -1,4 +1,4 @@
--- What a set keeps of its items, computed once.
+-- What a set stores of its items, computed once.
 use Rattle.std.specs.Prelude.{◌≡◌, ℕ, ◌<◌, Bool, List, [], Option, length, slice_get, Some}
 use Rattle.vx_bits.specs.declared.list.Item.{Item}
 use Rattle.vx_fields.specs.declared.sps.TheConstants as sps
@@ -30,7 +30,7 @@ subpicture_numbers items = record {
   ids = numbers_of items sps.sps_subpic_id;
 }
 
--- This is what the items tell of the subpictures, in a picture of so many columns and rows.
+-- What the items say of the subpictures, in a picture with these columns and rows.
 pub record IsTold (items : List Item) (across down : ℕ) (same : Bool) (noted : Numbers) : Type 0 where
   pub columns : across ≡ ctu_columns_of items
   pub rows : down ≡ ctu_rows_of items
@@ -46,12 +46,12 @@ subpicture_of items i = record {
   id = sps_subpic_id_of items i;
 }
 
--- The list is that of the first so many subpictures.
+-- The list is that of the first n subpictures.
 pub record AreSubpictures (items : List Item) (n : ℕ) (list : List Subpicture) : Type 0 where
   pub count : length list ≡ n
   pub each : (i : ℕ) → i < n → slice_get list i ≡ Some (subpicture_of items i)
 
--- All that is kept is what the items of a set tell; the RBSP, where it is known, is read as them.
+-- Everything that is stored is what the items of a set say; the RBSP, if it is known, is read as them.
 pub record IsKept (items : List Item) (rbsp : Option (List ℕ)) (scope : List ℕ) (list : List Subpicture) (structures : RplTable) (in_ph in_sh : ℕ) : Type 0 where
   pub set : AreSpsItems items
   pub read : IsReadFrom sps_form rbsp items

@@ -1,4 +1,4 @@
--- What a rewritten sequence parameter set says, and what stays as its source has it.
+-- What a rewritten sequence parameter set says, and what stays as in its source.
 use Rattle.std.specs.Prelude.{◌≡◌, ℕ, ◌-◌, ◌<◌, true, false, List, length, slice_index_or, Some, None}
 use Rattle.vx_bits.specs.declared.list.Item.{Item}
 use Rattle.vx_fields.specs.declared.sps.TheConstants as sps
@@ -23,13 +23,13 @@ count_in Absent = 1
 count_in (One id_len id) = 1
 count_in (Many rects) = length rects
 
--- Rectangle i, in a picture of so many columns and rows of CTUs.
+-- Rectangle i, in a picture with these columns and rows of CTUs.
 abbrev pub rect_in : ℕ → ℕ → SubpicPlan → ℕ → Rect
 rect_in columns rows Absent i = whole_picture columns rows
 rect_in columns rows (One id_len id) i = whole_picture columns rows
 rect_in columns rows (Many rects) i = slice_index_or rects i no_rect
 
--- Id i, where no PPS says another.
+-- Id i, if no PPS gives another.
 abbrev pub id_in_plan : SubpicPlan → ℕ → ℕ
 id_in_plan Absent i = i
 id_in_plan (One id_len None) i = i
