@@ -131,7 +131,7 @@ planned before p = record { begun = p.begun; kind = p.kind; before = before_slic
 
 -- ---- what is asked of a plan
 
--- A stream can go on here: no picture lacks a slice, and no unit came since the last slice.
+-- A stream can go on here: no picture lacks a slice, and neither an end of sequence nor messages came since the last slice.
 pub record Rests (before : List Reading) : Type 0 where
   pub closed : is_open (current before) ≡ false
   pub goes_on : is_ended before ≡ false
