@@ -30,7 +30,7 @@ use Rattle.vx_assemble.specs.declared.feed.Taken.{Taken}
 use Rattle.vx_assemble.specs.declared.feed.Taken.TheVariants.{Nal, End}
 use Rattle.vx_assemble.specs.Held.{Held, Stands, told}
 
--- A feed: its reader and its assembler, how many units it took, and what first kept it from going on.
+-- A feed: its reader and its assembler, how many units it took, and the fault at which it stopped first.
 pub record Feeding : Type 0 where
   pub reader : reader.Reading
   pub assembler : Held
@@ -46,14 +46,14 @@ pub record IsOpen (f : Feeding) : Type 0 where
 abbrev pub EndsAtEnd : Feeding → Option (List ℕ) → Type 0
 EndsAtEnd f left = f.reader.closed ≡ Some closed.End → IsAtEnd left
 
--- What an answer says of what first kept it from going on.
+-- The first fault, from an error.
 abbrev pub first_of : FeedFault → First
 first_of faults.Memory = firsts.Memory
 first_of faults.SourceFailed = firsts.SourceFailed
 first_of (faults.Refused r) = firsts.Refused r
 first_of (faults.Stopped f) = f
 
--- The bytes that are looked at.
+-- The bytes within the limit.
 abbrev pub seen_of : List ℕ → List ℕ
 seen_of g = take source_limit g
 
@@ -77,7 +77,8 @@ Lowers _ old new = new ≤ old
 abbrev pub bytes_held : Feeding → ℕ
 bytes_held f = held f.reader.splitter + length f.assembler.state.picture.bytes
 
--- The most bytes that a feed holds: a picture, a unit that isn't whole, and what a read appends to it (our own limits).
+-- The greatest number of bytes that a feed holds: a picture, a unit that isn't whole, and what a read appends to it (our own
+-- limits).
 abbrev pub most_held : ℕ
 most_held = picture_limit + unit_limit + 65538
 
@@ -86,7 +87,7 @@ abbrev pub Counts : Taken → ℕ → ℕ → Type 0
 Counts (Nal header place bytes what) old new = new ≡ old + 1
 Counts End old new = Unit {0}
 
--- ---- what stands behind the units
+-- ---- what comes after the units
 
 -- A unit follows that is refused after those before it.
 pub record UnitIsRefused (R : Readers) (f : reader.Reading) (g : List ℕ) (places : List UnitPlace) (before : List Reading) (r : Refusal)
@@ -237,8 +238,8 @@ pub record CompletesNone (R : Readers) (g : List ℕ) (places : List UnitPlace) 
 abbrev pub IsNearEnd : List ℕ → List UnitPlace → Type 0
 IsNearEnd g places = length g < end_of 0 places + 3 + 65536
 
--- The next picture of a source: the one that is done with the last of the units taken, and none is done before; or the end; or the first
--- refusal in what was read. At a failed read no further picture is seen there.
+-- The next picture of a source: the one that is complete with the last of the units taken, and none is complete before; or the end;
+-- or the first refusal in what was read. At a failed read no further picture is seen there.
 abbrev pub AdvancesBehind : Readers → List ℕ → List UnitPlace → List Reading → Feeding → ℕ → ℕ → Result Step FeedFault → Type 0
 AdvancesBehind R g places before new count count' (Ok ToPicture) =
     (count' ≡ count)

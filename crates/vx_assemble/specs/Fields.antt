@@ -95,7 +95,7 @@ module _ (R : Readers) (h : AreOfH266 R) where
   abbrev pub slice_items : ℕ → Begun → List ℕ → List Item
   slice_items nal_type b u = items_of_slice nal_type b u (R.slice nal_type b u) (h.slice nal_type b u)
 
-  -- Of one with the picture header inside: under that, or no further than that goes.
+  -- For a slice with the picture header inside: under that, or no further than that extends.
   abbrev pub alone_items : List Reading → List ℕ → Result Begun Refusal → List Item
   alone_items before u (Ok b) = slice_items (nal_unit_type u) b u
   alone_items before u (Err r) = inside_item ∷ picture_header_items true (rbsp_of u) before

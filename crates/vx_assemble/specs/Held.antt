@@ -30,15 +30,15 @@ told h = h.told
 abbrev pub HasPicture : Held → Type 0
 HasPicture h = told h ≡ accepted.PictureDone
 
--- That picture, as its callers see it.
+-- The model of that picture.
 abbrev pub lent_by : Held → Parts
 lent_by h = parts_in h.state.picture
 
--- What first kept a unit from being taken.
+-- The first fault, for which a unit wasn't taken.
 abbrev pub first_fault : Held → Option First
 first_fault h = h.first
 
--- What an answer says of that.
+-- That fault, from an error.
 abbrev pub first_of : AssembleFault → First
 first_of faults.Memory = firsts.Memory
 first_of (faults.Refused r) = firsts.Refused r

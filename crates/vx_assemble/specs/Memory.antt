@@ -36,9 +36,9 @@ pub record HasSeen (R : Readers) (f : Feeding) (bytes : List ℕ) (ps : List Pic
   pub all : is_all f.reader.splitter ≡ nat_le (length bytes) source_limit
   pub done : pictures before ≡ ps
 
--- It went on in bytes that have the pictures qs and this ending, the latest picture first, after ps: to their next picture,
--- which it lends; or to their end, which comes after all of them; or it was refused, after all of them, for what ends them. for
--- lack of memory nothing is said.
+-- It advanced in bytes that have the pictures qs and this ending, the latest picture first, after ps: to their next picture, which
+-- it lends; or to their end, which comes after all of them; or it was refused, after all of them, for what ends them. After lack of
+-- memory the result is unspecified.
 abbrev pub Sees : Readers → List ℕ → List Picture → Option Ending → List Picture → Feeding → Result Step AssembleFault → Type 0
 Sees R bytes qs ending ps new (Ok ToPicture) =
     (p : Picture) × HasSeen R new bytes (p ∷ ps) × ((later : List Picture) × (qs ≡ later ++ p ∷ ps)) × (lent_by new.assembler ≡ parts_of p)

@@ -48,7 +48,7 @@ abbrev pub sizes_between : List ℕ → List ℕ
 sizes_between [] = []
 sizes_between (a ∷ bs) = gaps_after a bs
 
--- The explicit sizes pass the total first at i.
+-- The sum of the explicit sizes first exceeds the total at i.
 pub record PassesFirstAt (explicit : List ℕ) (total i : ℕ) : Type 0 where
   pub in_range : i < length explicit
   pub before : sum (take i explicit) ≤ total

@@ -55,7 +55,7 @@ kept_with_names = filter (λ n. not (has starred n)) of_header
 
 -- ---- what they depend on
 
--- Of the sets in force kept fields depend on these, which are kept fields of the SPS and the PPS, and the number of extra bits,
+-- Of the sets in force, kept fields depend on these, which are kept fields of the SPS and the PPS, and the number of extra bits,
 abbrev pub kept_of_sets : List ℕ
 kept_of_sets = sps.sps_chroma_format_idc ∷ sps.sps_log2_max_pic_order_cnt_lsb_minus4 ∷ sps.sps_poc_msb_cycle_flag
     ∷ sps.sps_poc_msb_cycle_len_minus1 ∷ EXTRA_PH_BITS ∷ sps.sps_partition_constraints_override_enabled_flag
@@ -111,8 +111,8 @@ HeaderReadAgain = (table : RplTable) (s t : List ℕ) (old new : Place) (items a
 
 -- ---- rewritten
 
--- A header goes again under other sets that agree on what kept fields depend on, and whose PPS has filter and QP in slice headers: with
--- its kept fields, another id of the PPS, and other LMCS and scaling lists that go through there.
+-- A header can be rewritten under other sets that agree on what kept fields depend on, and whose PPS has filter and QP in slice
+-- headers: with its kept fields, another id of the PPS, and other LMCS and scaling lists that go through there.
 abbrev pub HeaderRewrites : Type 0
 HeaderRewrites = (table : RplTable) (s t : List ℕ) (values : List ℤ) (end : List ℕ) (id : ℕ) (maps : List Item)
     → Agree kept_of_sets s t → slice_index t pps.pps_alf_info_in_ph_flag ≡ 0 → slice_index t pps.pps_qp_delta_info_in_ph_flag ≡ 0

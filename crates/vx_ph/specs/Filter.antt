@@ -39,11 +39,11 @@ HeaderHasFilter = (table : RplTable) (s : List ℕ) (items : List Item) → AreP
     → is_set (slice_index s sps_alf_enabled_flag) ≡ true → is_set (slice_index s pps_alf_info_in_ph_flag) ≡ true
     → Takes (form_of ALF s) (filter_of items)
 
--- A field has one item at most.
+-- A field has at most one item.
 abbrev pub ComesOnce : ℕ → List Item → Type 0
 ComesOnce of items = length (filter (λ item. item.field == of) items) ≤ 1
 
--- A filter names one set at most for chroma, one for Cb and one for Cr.
+-- A filter names at most one set for chroma, one for Cb and one for Cr.
 pub record NamesOnce (items : List Item) : Type 0 where
   pub chroma : ComesOnce alf.alf_aps_id_chroma items
   pub cb : ComesOnce alf.alf_cc_cb_aps_id items

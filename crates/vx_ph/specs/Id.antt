@@ -22,12 +22,12 @@ to_id = always PICTURE ∷ always PPS_ID ∷ []
 unfoldable pub pps_id_form : Form (List ℕ)
 pps_id_form = sections_form to_id fresh
 
--- This is the id in what the bits begin with the spelling of.
+-- This is the id in the header with whose spelling the bits begin.
 abbrev pub IsId : Place → ℕ → Type 0
 IsId place id = (values : List ℤ) (rest : List Bool) → Spells place.total pps_id_form values place.left rest
     → number (items_along pps_id_form values) ph_pic_parameter_set_id ≡ id
 
--- It is the id of each header that they begin with, whatever the sets.
+-- It is the id of each header with which they begin, for any sets.
 abbrev pub HeaderHasId : Type 0
 HeaderHasId = (table : RplTable) (s : List ℕ) (place : Place) (id : ℕ) (values : List ℤ) (rest : List Bool)
     → length s ≡ 1024 → IsId place id → Spells place.total (header_form table s) values place.left rest

@@ -55,7 +55,7 @@ pub record IsShape (shape : PhShape) : Type 0 where
   pub lmcs : IfSome shape.lmcs (λ lmcs. lmcs.id < 4)
   pub scaling : IfSome shape.scaling (λ id. id < 8)
 
--- ---- where a header goes again
+-- ---- the places where a header can be rewritten
 
 -- Two pairs of an SPS and a PPS with the same kept fields.
 pub record HaveSameKept (sps pps other_sps other_pps : List Item) : Type 0 where
@@ -86,7 +86,7 @@ abbrev pub AreReshapedInPictureHeader : List Item → PhShape → List Item → 
 AreReshapedInPictureHeader source shape sps pps items = IsRewritten (header_form (structures sps) (in_force sps pps)) kept_ph_fields
     (shown_items kept_ph_fields source) (stated_ph_items sps shape) items
 
--- And its reference picture lists are the source's.
+-- Its reference picture lists are the source's.
 pub record IsReshapedPictureHeader (source : PictureHeader) (shape : PhShape) (sps pps : List Item) (written : PictureHeader) : Type 0 where
   pub fields : AreReshapedInPictureHeader source.fields shape sps pps written.fields
   pub lists : written.lists ≡ source.lists

@@ -39,7 +39,7 @@ pub record ArePictures (R : Readers) (b : List ℕ) (all : Bool) (ps : List Pict
   pub done : ps ≡ pictures (read_on R [] (units_at b places)).before
   pub ends : ending ≡ ending_by all framing (read_on R [] (units_at b places))
 
--- Those of a source: of more bytes than it may have, the units whose end is seen in as many (our own).
+-- Those of a source. If it has more bytes than the limit, the units whose end is seen within the limit count (our own).
 abbrev pub AreSourcePictures : Readers → List ℕ → List Picture → Option Ending → Type 0
 AreSourcePictures R b ps ending = ArePictures R (take source_limit b) (nat_le (length b) source_limit) ps ending
 

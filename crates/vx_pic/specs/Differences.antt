@@ -35,7 +35,7 @@ parts_in_force a b =
     whole_part a.alf b.alf ∷ whole_part a.lmcs b.lmcs ∷ whole_part a.scaling b.scaling ∷ whole_part a.lists b.lists
     ∷ whole_part a.slice_qp b.slice_qp ∷ whole_part a.place b.place ∷ whole_part a.payload b.payload ∷ []
 
--- This is the first part in which they aren't the same, the parts being numbered from here on.
+-- This is the first part in which they aren't the same; parts are numbered from here on.
 abbrev pub DiffersFirst : List Part → ℕ → Difference → Type 0
 DiffersFirst [] n d = ⊥
 DiffersFirst (p ∷ more) n d = (¬ p.same × (d ≡ record { part = n; field = p.field })) ⊎ (p.same × DiffersFirst more (n + 1) d)

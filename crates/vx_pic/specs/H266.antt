@@ -32,7 +32,7 @@ use Rattle.vx_pic.specs.Rules.{Readers}
 use Rattle.vx_pic.specs.PictureLayout.{IsLayoutAnswer}
 use Rattle.vx_pic.specs.UnderSets.{at_slice_of}
 
--- ---- what bits are answered with, from a place on (7.3)
+-- ---- the answer to bits, from a place on (7.3)
 
 -- They begin with the spelling of values of the form, and these are the items of the values (7.3),
 pub record BeginsItems {A : Type 0} (form : Form A) (place : Place) (items : List Item) : Type 0 where
@@ -74,8 +74,7 @@ IsReferredPps inside rbsp (Err r) = IsRefusedAt pps_id_form (header_place inside
 
 -- ---- slice headers (7.3.7)
 
--- The header that the unit's RBSP begins with, and the place in the unit after it and after the unit's two header bytes
--- (7.3.7).
+-- The header with which the unit's RBSP begins, and the place in the unit after it and after the unit's two header bytes (7.3.7).
 pub record IsSlice (nal_type : ℕ) (b : Begun) (unit : List ℕ) (h : SliceHeader) : Type 0 where
   pub value : SliceValue
   pub size : ℕ

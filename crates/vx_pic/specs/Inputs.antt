@@ -30,7 +30,7 @@ use Rattle.vx_pic.specs.Sets.{Slot, named, filter_items, slice_qp}
 use Rattle.vx_pic.specs.Readings.{Slice, Picture}
 use Rattle.vx_pic.specs.Parts.{SlicePart, Parts, aps_at, read_of, parts_of, slice_part}
 
--- ---- kept fields: those without a star, which a stream that is written has as its source
+-- ---- kept fields: those without a star, which a written stream copies from its source
 
 abbrev pub sps_fields : List Item → List Item
 sps_fields items = sps_kept.kept_sps_items items
@@ -176,7 +176,7 @@ input_of p s = input_in (parts_of p) (slice_part p.begun s)
 abbrev pub inputs_of : Picture → ℕ → List Input
 inputs_of p k = map (input_of p) (filter (λ s. s.header.subpic == k) p.slices)
 
--- Of what callers see of a picture.
+-- For the model of a picture.
 abbrev pub inputs_in : Parts → ℕ → List Input
 inputs_in q k = map (input_in q) (filter (λ s. s.header.subpic == k) q.slices)
 

@@ -29,7 +29,7 @@ use Rattle.vx_sh.specs.InForce.{at_sets}
 
 -- ---- adaptation parameter sets
 
--- How many ids a type has at most: 0 to 7 (7.4.3.6).
+-- The greatest number of ids of a type: 0 to 7 (7.4.3.6).
 abbrev pub id_count : ℕ
 id_count = 8
 
@@ -48,7 +48,7 @@ stored_of kind before = map (λ id. stored_aps kind id before) (range_with_len 0
 abbrev pub stored_sets : List Reading → List (Option Aps)
 stored_sets before = stored_of ALF before ++ (stored_of LMCS before ++ stored_of SCALING before)
 
--- ---- what callers see
+-- ---- the model
 
 -- A slice: its unit, its header, and the place in the unit at which slice_data( ) begins.
 pub record SlicePart : Type 0 where
@@ -96,7 +96,7 @@ seen p = record {
   messages = p.messages.now;
 }
 
--- ---- what is asked of it
+-- ---- its requirements
 
 -- Its places are in the bytes, in order, and the payload isn't empty.
 pub record IsPlaced (bytes : List ℕ) (s : SliceSlot) : Type 0 where
@@ -108,7 +108,7 @@ pub record IsPlaced (bytes : List ℕ) (s : SliceSlot) : Type 0 where
 abbrev pub read_of : SliceValue → SliceHeader
 read_of h = record { fields = h.fields; subpic = h.subpic; payload = 0 }
 
--- What it names of adaptation parameter sets, of a picture with this PPS and header.
+-- The adaptation parameter sets that it names, in a picture with this PPS and header.
 abbrev pub aps_named_by : List Item → List Item → SliceValue → List Slot
 aps_named_by pps header h = names_of pps header (read_of h)
 
@@ -134,7 +134,7 @@ pub record MakePicture (p : PictureParts) : Type 0 where
   -- The units are in the bytes, each slice with a payload (a slice that is read).
   pub header : p.header_end ≤ length p.bytes.now
   pub places : AllByRecursion (IsPlaced p.bytes.now) p.slices.now
-  -- Both sets have one size, and make up the layout and the ids, one of each subpicture (a header that is read).
+  -- Both sets have the same size, and make up the layout and the ids, one for each subpicture (a header that is read).
   pub size : same_size p.sps.now p.pps.now ≡ true
   pub sets : MakeLayout p.sps.now p.pps.now
   pub layout : p.layout.now ≡ numbers_in p.sps.now p.pps.now

@@ -56,7 +56,7 @@ are_in_pps s p =
 unfoldable pub ids_of : List Item → List Item → List ℕ
 ids_of s p = cond (are_in_pps s p) (numbers_of p pps_fields.pps_subpic_id) (map (sps_subpic_id_of s) (range_with_len 0 (subpics_of s)))
 
--- ---- what both sets have to agree on, beside the size of pictures (7.4.3.4, 7.4.3.5)
+-- ---- what both sets must agree on, in addition to the size of pictures (7.4.3.4, 7.4.3.5)
 
 -- The CTU sizes differ (7.4.3.5, pps_log2_ctu_size_minus5).
 unfoldable pub ctu_sizes_differ : List Item → List Item → Bool
@@ -75,7 +75,7 @@ abbrev pub same_flag : Bool → Bool → Bool
 same_flag true b = b
 same_flag false b = not b
 
--- It has other numbers of them than the SPS, or of other lengths (7.4.3.5, pps_num_subpics_minus1, pps_subpic_id_len_minus1).
+-- It has another number of them than the SPS, or of another length (7.4.3.5, pps_num_subpics_minus1, pps_subpic_id_len_minus1).
 abbrev pub ids_unlike : List Item → List Item → Bool
 ids_unlike s p =
     not (number p pps_fields.pps_num_subpics_minus1 == number s sps_fields.sps_num_subpics_minus1)
@@ -93,7 +93,7 @@ ids_misplaced s p =
     not (same_flag (is_set (number p pps_fields.pps_subpic_id_mapping_present_flag)) (needs_ids s))
     || ((is_set (number p pps_fields.pps_subpic_id_mapping_present_flag) && ids_unlike s p) || ids_too_short s)
 
--- No two subpictures have one id (SubpicIdVal, 7.4.3.5).
+-- No two subpictures have the same id (SubpicIdVal, 7.4.3.5).
 abbrev pub AreDistinct : List ℕ → Type 0
 AreDistinct ids = AllPairs (λ a b. a ≡ b → ⊥) ids
 
@@ -131,7 +131,7 @@ abbrev pub IsLayoutAnswer : List Item → List Item → Result Numbers Refusal �
 IsLayoutAnswer s p (Ok n) = MakeLayout s p × (n ≡ numbers_in s p)
 IsLayoutAnswer s p (Err r) = (k : ℕ) × IsFault s p k × (r ≡ layout_refusal k)
 
--- What is answered of them, unless memory runs out.
+-- The answer for both sets, unless memory runs out.
 abbrev pub AnswersLayout : List Item → List Item → Result Numbers ReadError → Type 0
 AnswersLayout s p (Ok n) = IsLayoutAnswer s p (Ok n)
 AnswersLayout s p (Err Memory) = Unit {0}

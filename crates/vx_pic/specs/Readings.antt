@@ -32,7 +32,7 @@ pub data Reading : Type 0 where
   sps_read : List Item → Reading
   pps_read : List Item → Reading
   aps_read : Aps → Reading
-  -- SEI messages that are carried with the next picture.
+  -- SEI messages that are copied with the next picture.
   messages_read : List Message → Reading
   -- A PH unit.
   header_read : Begun → Reading
@@ -62,7 +62,7 @@ abbrev pub aps_in : ℕ → ℕ → Reading → Option Aps
 aps_in kind id (aps_read a) = cond ((a.kind == kind) && (a.id == id)) (Some a) None
 aps_in kind id _ = None
 
--- Those in force: of the last units of their ids, and of APSs of their types and ids (7.4.3.4 to 7.4.3.6, on the content of
+-- Those in force: of the last units with their ids, and for APSs with their types and ids (7.4.3.4 to 7.4.3.6, on the content of
 -- sets).
 abbrev pub stored_sps : ℕ → List Reading → Option (List Item)
 stored_sps id before = latest_given (sps_in id) before
@@ -157,7 +157,7 @@ is_slice _ = false
 abbrev pub completed : Reading → List Reading → List Picture
 completed r before = cond (is_slice r) (picture_if_whole (current (r ∷ before))) []
 
--- The whole pictures, the latest first: a picture is done with its last slice.
+-- The whole pictures, the latest first: a picture is complete with its last slice.
 abbrev pub pictures : List Reading → List Picture
 pictures [] = []
 pictures (r ∷ before) = completed r before ++ pictures before

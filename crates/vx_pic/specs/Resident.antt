@@ -13,7 +13,7 @@ use Rattle.vx_pic.specs.Alike.{IsNext}
 use Rattle.vx_pic.specs.Written.{Set, an_sps, a_pps, an_aps, IsStored, SetUnit, Plan, planned_slices, units_of, readings_of}
 use Rattle.vx_pic.specs.Written.{readings_after, before_header, planned, Rests, AreInOrder, Says, HeadReads, SliceReads, SeiReads}
 
--- ---- plans one behind another, the last one first
+-- ---- plans one after another, the last one first
 
 -- What their units are read as.
 abbrev pub readings_of_plans : List Plan → List Reading
@@ -31,7 +31,7 @@ planned_of (p ∷ done) = planned (readings_of_plans done) p ∷ planned_of done
 
 -- ---- sets that are sent
 
--- Both have one type and one id.
+-- Both have the same type and the same id.
 abbrev pub same_slot : Set → Set → Bool
 same_slot (an_sps s) (an_sps t) = sps_id s == sps_id t
 same_slot (a_pps s) (a_pps t) = pps_id s == pps_id t
@@ -47,7 +47,7 @@ abbrev pub history_of : List Plan → List SetUnit
 history_of [] = []
 history_of (p ∷ done) = kept_for p.kind.nal_type (history_of done) ++ p.sent
 
--- No two of these have one type and one id.
+-- No two of these have the same type and the same id.
 abbrev pub HaveOwnSlots : List SetUnit → Type 0
 HaveOwnSlots [] = Unit {0}
 HaveOwnSlots (x ∷ more) = AllByRecursion (λ y. same_slot x.set y.set ≡ false) more × HaveOwnSlots more
@@ -107,7 +107,7 @@ abbrev pub HaveNamed : List SetUnit → List Slot → Type 0
 HaveNamed needed slots = AllByRecursion (λ slot. (a : Aps) × (a.kind ≡ slot.kind) × (a.id ≡ slot.id) × HasSet needed (an_aps a)) slots
 
 module _ (R : Readers) where
-  -- What is asked of a plan that is written after others.
+  -- The requirements of a plan that is written after others.
   pub record IsPlanned (done : List Plan) (p : Plan) : Type 0 where
     pub sets : AllByRecursion (λ x. Says R x.unit x.set) p.sent
     pub sends : Sends done p

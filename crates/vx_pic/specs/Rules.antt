@@ -29,11 +29,11 @@ pub record Readers : Type 0 where
   pub pps : List ℕ → Result (List Item) Refusal
   -- None: a type that isn't stored.
   pub aps : List ℕ → Result (Option Aps) Refusal
-  -- The carried messages; none of what is no SEI RBSP.
+  -- The messages that are copied; none of what is no SEI RBSP.
   pub sei : List ℕ → List Message
   -- The layout that an SPS and a PPS determine, or the lowest fault (6.5.1).
   pub layout : List Item → List Item → Result Numbers Refusal
-  -- ph_pic_parameter_set_id, and the picture header under its sets; in a slice, or in a PH unit with what ends it.
+  -- ph_pic_parameter_set_id, and the picture header under its sets; in a slice, or in a PH unit with its end.
   pub referred_pps : Bool → List ℕ → Result ℕ Refusal
   pub header : Bool → List Item → List Item → List ℕ → Result (List Item) Refusal
   -- A slice's header, by the type of the picture's first slice, in a unit.
@@ -44,7 +44,7 @@ pub record Readers : Type 0 where
 abbrev pub structure : ℕ → Refusal
 structure code = Structure code 0 0
 
--- A set that didn't come (7.4.3.4 to 7.4.3.6).
+-- A set that is missing (7.4.3.4 to 7.4.3.6).
 abbrev pub missing : ℕ → ℕ → Refusal
 missing kind id = Structure rules.SET_MISSING kind id
 

@@ -4,7 +4,7 @@ use Rattle.vx_pic.specs.declared.in_force.AlfInForce.{AlfInForce}
 use Rattle.vx_pic.specs.declared.input.DecodingInput.{DecodingInput}
 use Rattle.vx_pic.specs.Inputs.{Alf, Input}
 
--- Borrowed bodies are seen as their bytes.
+-- Borrowed bodies, as their bytes.
 abbrev pub alf_seen : AlfInForce → Alf
 alf_seen a = record {
   enabled = a.enabled;

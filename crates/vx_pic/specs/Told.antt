@@ -6,7 +6,7 @@ use Rattle.vx_pic.specs.Sets.{sps_id, pps_id}
 use Rattle.vx_pic.specs.Readings.{Reading, dropped, vps_read, sps_read, pps_read, aps_read, messages_read, header_read, first_slice}
 use Rattle.vx_pic.specs.Readings.{next_slice, sequence_ended, Current, nothing, headed, going, current, is_whole}
 
--- A picture is done with this slice, or more of its slices come.
+-- A picture is complete with this slice, or more of its slices come.
 abbrev pub done_or_not : Current → Accepted
 done_or_not nothing = accepted.Nothing
 done_or_not (headed b) = accepted.Nothing

@@ -44,7 +44,7 @@ SubpicturesHaveSlices = (R : Readers) (units : List (List ℕ)) → AreOfH266 R 
 abbrev pub SubpicturesAreWhole : Type 0
 SubpicturesAreWhole = (R : Readers) (units : List (List ℕ)) → AreOfH266 R → AllByRecursion HasAllInOrder (pictures_of R units)
 
--- Of what callers see of a picture, the slices of subpicture k are those.
+-- In the model of a picture, the slices of subpicture k are those.
 abbrev pub SlicesAreShown : Type 0
 SlicesAreShown = (parts : Parts) (p : Picture) (k : ℕ) → ShowsPicture parts p
     → filter (λ s. s.header.subpic == k) parts.slices ≡ map (slice_part p.begun) (subpic_slices p k)

@@ -1,4 +1,4 @@
--- A picture as units that are written, and what is asked of them so that they are read as that picture. Our own.
+-- A picture as units that are written, and the requirements for reading them as that picture. Our own.
 use Rattle.std.specs.Prelude.{◌≡◌, ℕ, ◌+◌, ◌≤◌, ◌<◌, Bool, true, false, cond, List, [], ◌∷◌, ◌++◌, length, map, sum_by, option_to_list}
 use Rattle.std.specs.Prelude.{Option, Some, None, is_none, Ok}
 use Rattle.std.specs.List.{AllByRecursion}
@@ -129,7 +129,7 @@ before_slices before p = readings_after (before_header before p) (header_reading
 abbrev pub planned : List Reading → Plan → Picture
 planned before p = record { begun = p.begun; kind = p.kind; before = before_slices before p; slices = planned_slices p }
 
--- ---- what is asked of a plan
+-- ---- the requirements of a plan
 
 -- A stream can go on here: no picture lacks a slice, and neither an end of sequence nor messages came since the last slice.
 pub record Rests (before : List Reading) : Type 0 where

@@ -1,5 +1,5 @@
--- Slices of a picture as a slice list names them: groups, each a slice of whole tiles or the slices of one tile
--- (H.266 7.3.2.5, 7.4.3.5, 6.5.1).
+-- Slices of a picture as a slice list describes them: groups, each a slice of whole tiles or the slices of one tile (H.266 7.3.2.5,
+-- 7.4.3.5, 6.5.1).
 use Rattle.std.specs.Prelude.{◌≡◌, ◌==◌, ℕ, ◌+◌, ◌-◌, ◌*◌, ◌<◌, ◌≤◌, ◌||◌, Bool, false, List, [], ◌∷◌, ◌++◌, All, length, sum}
 use Rattle.std.specs.List.{AllPairs}
 use Rattle.vx_layout.specs.declared.rect.Rect.{Rect}
@@ -74,7 +74,7 @@ Follow g deltas before (group ∷ next ∷ more) =
     × (deltas ≡ false → first_tile_of next ≡ tile_behind g (first_tile_of group) (wide_of group - 1) (high_of group - 1))
     × Follow g deltas (high_of group - 1) (next ∷ more)
 
--- Slices that cover a picture of these tiles in order, and that a slice list can name.
+-- Slices that cover a picture of these tiles in order, and that a slice list can describe.
 pub record IsList (g : Tiles) (slices : List Rect) : Type 0 where
   pub grid : IsGrid g
   pub columns : Rises g.columns

@@ -54,7 +54,7 @@ ReadsFields rbsp items (Err errors.Memory) after = Unit {0}
 ReadsFields rbsp items (Err (errors.Refused r)) after =
     (new : Place) × Reads {B = Unit {0}} pps_form (at_front rbsp) items (Err (errors.Refused r)) new after
 
--- ---- what its items tell (7.4.3.5)
+-- ---- what its items say (7.4.3.5)
 
 -- The items are those of a picture parameter set, which has these tiles and slices (7.3.2.5).
 abbrev pub IsPps : List Item → Partition → Type 0

@@ -90,12 +90,12 @@ divided_items shape groups =
     ++ (only_item pps.pps_single_slice_per_subpic_flag (pos 0)
     ++ slice_list_items shape groups)))
 
--- What is said of tiles and slices: each group has slices of whole tiles, or the slices of one tile.
+-- The fields of tiles and slices: each group has slices of whole tiles, or the slices of one tile.
 pub record Divides (shape : PpsShape) (items : List Item) : Type 0 where
   pub groups : InGroups shape.tiles (has_deltas shape) shape.slices
   pub same : items ≡ divided_items shape (groups.group ∷ groups.groups)
 
--- Nothing is said of a picture that isn't partitioned.
+-- There are none for a picture that isn't partitioned.
 abbrev pub IsDivision : Bool → PpsShape → List Item → Type 0
 IsDivision true shape items = items ≡ []
 IsDivision false shape items = Divides shape items
@@ -190,14 +190,14 @@ pub record IsReshapedPps (source : List Item) (shape : PpsShape) (items : List I
   pub stated : IsStated source shape others
   pub rewritten : IsRewritten pps_form (taken shape) (shown_items (taken shape) source) others items
 
--- Of a rewritten set that is partitioned the tile columns, the tile rows and the slices are exactly the shape's.
+-- If a rewritten set is partitioned, then its tile columns, tile rows and slices are exactly the shape's.
 abbrev pub ReshapedHasItsTiles : Type 0
 ReshapedHasItsTiles =
     (source items : List Item) (shape : PpsShape) → ArePpsItems source → IsShape source shape → IsReshapedPps source shape items
     → whole_flag source shape ≡ 0
     → (tile_columns_of items ≡ shape.tiles.columns) × (tile_rows_of items ≡ shape.tiles.rows) × (slice_list_of items ≡ Some shape.slices)
 
--- The set for a region keeps what its source keeps, in the place of absent fields too.
+-- The set for a region keeps what its source keeps, also in place of absent fields.
 abbrev pub RegionKeeps : Type 0
 RegionKeeps =
     (source items : List Item) (shape : PpsShape) → ArePpsItems source → IsShape source shape → IsReshapedPps source shape items

@@ -50,9 +50,9 @@ height_in_tiles g deltas t before =
     cond (row g t + 1 == down g) (done 0)
     (cond (spells_height g deltas t) (golomb_form pps.pps_slice_height_in_tiles_minus1 (below (down g - row g t))) (done before))
 
--- The heights, less 1, that the explicit slice of a tile may have which comes next, where `left` CTU rows of the tile are left
--- and `room` slices of the picture, it among them: it stays in the tile, and the last explicit one is so high that the slices
--- of its height after it are no more than those that are left (7.4.3.5).
+-- The heights, less 1, that the next explicit slice of a tile may have. `left` CTU rows of the tile are left, and `room` slices of
+-- the picture, including this one. The slice stays in the tile, and the last explicit one is so high that there are no more slices
+-- of its height after it than are left (7.4.3.5).
 abbrev pub height_limits : Bool → ℕ → ℕ → Limits ℕ
 height_limits is_last left room =
     cond (is_last && nat_le 1 left) (Within (pos (div_ceil left room - 1)) (left - 1) OutOfRange) (below left)

@@ -37,7 +37,7 @@ tile g t = block g t 1 1
 abbrev pub tile_behind : Tiles → ℕ → ℕ → ℕ → ℕ
 tile_behind g t width height = t + (width + 1) + cond ((t + (width + 1)) % across g == 0) (height * across g) 0
 
--- One to 512 tile columns and tile rows, of a picture of no great height.
+-- One to 512 tile columns and tile rows, of a picture whose height is bounded.
 pub record IsGrid (g : Tiles) : Type 0 where
   pub columns : (2 ≤ length g.columns) × (length g.columns ≤ 513)
   pub rows : (2 ≤ length g.rows) × (length g.rows ≤ 513)

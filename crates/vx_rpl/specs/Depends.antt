@@ -22,7 +22,7 @@ use Rattle.vx_rpl.specs.Lists.{own_and_long_term, lists_form, weights}
 use Rattle.vx_rpl.specs.Resolved.{table_of}
 use Rattle.vx_rpl.specs.HeaderLists.{lists_of}
 
--- ---- what is read
+-- ---- the numbers on which they depend
 
 -- Lists: five numbers of the parameter sets, whatever structures the SPS has.
 abbrev pub fields_behind_lists : List ℕ
@@ -35,7 +35,7 @@ ListsDepend = (table : RplTable) → DependsOnlyOn
     ∷ pps_rpl1_idx_present_flag ∷ [])
     fields_behind_lists (lists_form table)
 
--- A structure: four of the SPS, and which of how many it is.
+-- A structure: four of the SPS, its index and the number of structures.
 abbrev pub StructureDepends : Type 0
 StructureDepends = ReadsOnly
     (sps_log2_max_pic_order_cnt_lsb_minus4 ∷ sps_weighted_pred_flag ∷ sps_weighted_bipred_flag ∷ sps_long_term_ref_pics_flag
@@ -51,9 +51,9 @@ WeightsDepend = SectionsReadOnly
 abbrev pub FieldsAreCodedOnce : Type 0
 FieldsAreCodedOnce = CodedOnce (CHOICE ∷ REF_PIC_LIST_STRUCT ∷ LONG_TERM ∷ WEIGHTS_0 ∷ WEIGHTS ∷ WEIGHTS_1 ∷ [])
 
--- ---- how what is known goes along the lists: the tests of their tables, one behind another
+-- ---- how what is known is carried along the lists: the tests of their tables, one after another
 
--- Before the choice of a list's structure it is set which list that is, and how many structures the SPS has for it.
+-- Before the choice of a list's structure, the scope receives which list it is, and how many structures the SPS has for it.
 abbrev pub at_choice : List ℕ → List ℕ → List ℕ
 at_choice shown known = grown shown (grown shown known IS_LIST_0) NUM_STRUCTURES
 
@@ -93,7 +93,7 @@ abbrev pub ListsCarry : Type 0
 ListsCarry = (table : RplTable) (shown known : List ℕ) → lists_chain shown known ≡ true
     → Carries shown known (behind_lists shown known) (lists_form table)
 
--- ---- what holds of each field
+-- ---- facts of each field
 
 abbrev pub lists_pass : (Row → Bool) → Bool
 lists_pass test = rows_pass test BEFORE_LIST_0
@@ -121,7 +121,7 @@ ListsLeave = (table : RplTable) (names : List ℕ) → lists_hide names ≡ true
     → has_none names (IS_LIST_0 ∷ NUM_STRUCTURES ∷ num_ref_entries ∷ ltrp_in_header_flag ∷ LONG_ENTRIES ∷ []) ≡ true
     → Leaves names (lists_form table)
 
--- ---- which items tell the lists
+-- ---- the items that determine the lists
 
 -- The set has this number of fields from this one on.
 abbrev pub has_run : List ℕ → ℕ → ℕ → Bool
@@ -136,7 +136,7 @@ ListsFollowItems = (table : RplTable) (known s t names : List ℕ) (items others
     → has_run names num_ref_entries 11 ≡ true → shown_items names items ≡ shown_items names others
     → lists_of table s items ≡ lists_of table t others
 
--- Those of structures and their numbers to the same structures of an SPS.
+-- Those of structures and of their numbers determine the same structures of an SPS.
 abbrev pub TablesFollowItems : Type 0
 TablesFollowItems = (weighted : Bool) (names : List ℕ) (items others : List Item) → IsTrue (has names sps_num_ref_pic_lists)
     → has_run names num_ref_entries 6 ≡ true → shown_items names items ≡ shown_items names others

@@ -67,7 +67,7 @@ behind_entries (item ∷ items) = cond (is_of_structure item) (behind_entries it
 abbrev pub behind_own : Choice → List Item → List Item
 behind_own choice items = cond choice.from_sps items (behind_entries (behind_next num_ref_entries items))
 
--- ---- what the header tells of long-term entries (7.3.9, 7.4.10)
+-- ---- the header's fields for long-term entries (7.3.9, 7.4.10)
 
 -- delta_poc_msb_cycle_lt, if it is present (7.3.9).
 abbrev pub cycle_of : List Item → Option ℕ

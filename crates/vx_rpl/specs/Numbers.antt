@@ -1,4 +1,4 @@
--- The scopes at which reference picture list structures and weights are read: what they take from parameter sets.
+-- The scopes at which reference picture list structures and weights are read: the numbers of parameter sets on which they depend.
 use Rattle.std.specs.Prelude.{ℕ, ◌-◌, List, slice_index, slice_set}
 use Rattle.vx_table.specs.Scope.{fresh, one_if}
 use Rattle.vx_fields.specs.declared.names.rpl.TheConstants.{NUM_STRUCTURES, STRUCTURE, ENTRIES_0, ENTRIES_1, ACTIVE_0, ACTIVE_1}
@@ -8,7 +8,7 @@ use Rattle.vx_fields.specs.declared.pps.TheConstants.{pps_rpl1_idx_present_flag,
 use Rattle.vx_rpl.specs.declared.numbers.RplNumbers.{RplNumbers}
 use Rattle.vx_rpl.specs.declared.numbers.WeightNumbers.{WeightNumbers}
 
--- The numbers that lists read.
+-- The numbers that lists depend on.
 unfoldable pub lists_scope : RplNumbers → List ℕ
 lists_scope n =
     slice_set
@@ -21,7 +21,7 @@ lists_scope n =
 unfoldable pub structure_scope : RplNumbers → ℕ → ℕ → List ℕ
 structure_scope n index count = slice_set (slice_set (lists_scope n) STRUCTURE index) NUM_STRUCTURES count
 
--- The numbers that weights read.
+-- The numbers that weights depend on.
 unfoldable pub weights_scope : WeightNumbers → List ℕ
 weights_scope n =
     slice_set

@@ -51,7 +51,7 @@ entries_from weighted i (item ∷ items) =
     (cond (begins_entry item) (entry_of weighted i item items ∷ entries_from weighted (i + 1) items) (entries_from weighted i items))
     []
 
--- A structure whose items after num_ref_entries come first; it has 29 entries at most (7.4.11).
+-- A structure whose items after num_ref_entries come first; it has at most 29 entries (7.4.11).
 abbrev pub structure_of : Bool → List Item → Structure
 structure_of weighted items = record {
   entries = take 29 (entries_from weighted 0 items);

@@ -13,7 +13,7 @@ use Rattle.vx_rpl.specs.declared.numbers.RplNumbers.{RplNumbers}
 use Rattle.vx_rpl.specs.declared.tables.TheConstants.{REF_PIC_LIST_STRUCT}
 use Rattle.vx_rpl.specs.Numbers.{structure_scope}
 
--- The answer, whole, unless memory runs out:
+-- The whole answer, unless memory runs out:
 pub record WritesAll {A : Type 0} (form : Form A) (old : List Bool) (items : List Item) (result : Result (Unit {0}) SpellError)
     (new : List Bool) : Type 0 where
   -- what it has written is the spelling of values whose items these are;
@@ -24,7 +24,7 @@ pub record WritesAll {A : Type 0} (form : Form A) (old : List Bool) (items : Lis
       → IsWritten result (new ≡ old ++ bits_along form (length old) values)
   -- other items aren't;
   pub none : ((values : List ℤ) (end : A) → AreItemsOf form items values end [] → ⊥) → IsRejected result
-  -- and the bits that there were stay.
+  -- and the bits that were there before remain.
   pub gained : (more : List Bool) × (new ≡ old ++ more)
 
 -- The result of writing if these items are left.

@@ -24,7 +24,7 @@ use Rattle.vx_ph.specs.Depends.{lists_tables}
 use Rattle.vx_sh.specs.declared.tables.TheConstants.{HEADER_INSIDE, SUBPIC_ID, KNOWN_SUBPIC, ADDRESS, STARRED}
 use Rattle.vx_sh.specs.Slice.{before_lists, between, behind_weights, rest_form}
 
--- ---- what is read of the sets, the picture header and the place of the slice
+-- ---- the numbers of the sets, the picture header and the place of the slice that are used
 
 -- Kept fields of the SPS.
 abbrev pub of_sps : List ℕ

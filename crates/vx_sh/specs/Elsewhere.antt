@@ -17,7 +17,8 @@ use Rattle.vx_sh.specs.Value.{BeginsSlice}
 abbrev pub given_behind : List ℕ
 given_behind = filter (λ n. not (has (NUM_SLICES ∷ sh_picture_header_in_slice_header_flag ∷ []) n)) all_given
 
--- and what the id and the entry points depend on: all that a slice header reads of the sets and of the picture header in force.
+-- and what the id and the entry points depend on: everything of the sets and of the picture header in force that a slice header
+-- uses.
 abbrev pub given : List ℕ
 given = sps_subpic_info_present_flag ∷ sps_subpic_id_len_minus1 ∷ sps_entropy_coding_sync_enabled_flag
     ∷ sps_entry_point_offsets_present_flag ∷ given_behind

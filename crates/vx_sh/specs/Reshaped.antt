@@ -71,7 +71,7 @@ pub record IsShape (n : SliceNumbers) (shape : ShShape) : Type 0 where
       → Takes (form_of ALF (in_force n.sps.now n.pps.now)) shape.filter.now
   pub qp : IsCodeNumber (code_number shape.qp_delta)
 
--- ---- where a header goes again
+-- ---- the places where a header can be rewritten
 
 -- Subpictures k and m of two layouts have as many slices, with the same entry points by address.
 pub record HaveSameSlices (layout : Numbers) (k : ℕ) (other : Numbers) (m : ℕ) : Type 0 where
@@ -104,7 +104,7 @@ pub record GoesAt (source : SliceHeader) (id : ℕ) (n : SliceNumbers) : Type 0 
 
 -- ---- the rewritten slice header (our own)
 
--- The items are those of a slice header there that has the picture header apart, with the stated id. Those of kept fields are the
+-- The items are those of a slice header there that has no picture header inside, with the stated id. Those of kept fields are the
 -- source's, and the others are exactly what is stated.
 pub record AreReshapedInSliceHeader (source : List Item) (shape : ShShape) (n : SliceNumbers) (items : List Item) : Type 0 where
   pub fields : AreFields (in_force_at n) items []
@@ -143,7 +143,7 @@ ReshapedIsReadAgain = (source written : SliceHeader) (shape : ShShape) (n : Slic
 
 -- ---- sets and picture headers with the same kept fields
 
--- What slice headers read of them that is kept, after the id of the subpicture.
+-- What slice headers use of them that is kept, after the id of the subpicture.
 abbrev pub kept_in_force : List ℕ
 kept_in_force = sps_fields.sps_entropy_coding_sync_enabled_flag ∷ sps_fields.sps_entry_point_offsets_present_flag
     ∷ filter (λ n. not (n == NUM_SLICES)) kept_given

@@ -72,8 +72,8 @@ abbrev pub header_inside : RplTable → List ℕ → List ℕ → Form (List ℕ
 header_inside table sets =
     present (When (Plain (Latest sh_picture_header_in_slice_header_flag))) (λ s. header_form table sets >>= λ t. done s)
 
--- What a slice header is read and written at: the SPS's structures of lists, the numbers of the sets, these with the numbers of the
--- picture header and of the slice, the ids of the subpictures, and the layout (our own).
+-- What a slice header is read and written under: the SPS's structures of lists, the numbers of the sets, these with the numbers of
+-- the picture header and of the slice, the ids of the subpictures, and the layout (our own).
 pub record At : Type 0 where
   pub table : RplTable
   pub sets : List ℕ
@@ -88,6 +88,6 @@ at_of n slice = record { table = n.table.now; sets = n.sets.now; slice = slice; 
 unfoldable pub slice_form : At → Form (List ℕ)
 slice_form n = (form_of HEADER_INSIDE n.slice >>= header_inside n.table n.sets) >>= behind_header n.table n.ids n.layout
 
--- With the picture header apart.
+-- Without a picture header inside.
 unfoldable pub apart_form : RplTable → List ℕ → Numbers → List ℕ → Form (List ℕ)
 apart_form table ids layout s = form_of HEADER_INSIDE s >>= behind_header table ids layout

@@ -35,7 +35,7 @@ abbrev pub taken_besides : List ℕ
 taken_besides = sps.sps_timing_hrd_params_present_flag ∷ sps.sps_vui_parameters_present_flag ∷ sps.sps_vui_payload_size_minus1
     ∷ sps.vui_payload_byte ∷ VUI_BYTE ∷ sps.sps_rbsp_trailing_bits ∷ []
 
--- All fields and names that it has as its source.
+-- All fields and names that a rewritten set has from its source.
 abbrev pub taken_sps_fields : List ℕ
 taken_sps_fields = names_of_kept ++ (taken_besides ++ kept_sps_fields)
 

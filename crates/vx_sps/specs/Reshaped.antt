@@ -126,7 +126,7 @@ rate_items source =
     ∷ (where_so (not general) (item_of_source source timing.fixed_pic_rate_within_cvs_flag ∷ [])
     ++ where_so (general || within) (item_of_source source timing.elemental_duration_in_tc_minus1 ∷ []))
 
--- Timing where the source has it (clauses 7.3.5.1 and 7.3.5.2): its ticks, no HRD parameters, and that rate.
+-- Timing if the source has it (clauses 7.3.5.1 and 7.3.5.2): its ticks, no HRD parameters, and that rate.
 abbrev pub timing_items : List Item → List Item
 timing_items source = where_so (is_set (number source sps.sps_timing_hrd_params_present_flag))
     (item_of_source source timing.num_units_in_tick ∷ item_of_source source timing.time_scale ∷ item timing.general_nal_hrd_params_present_flag 0

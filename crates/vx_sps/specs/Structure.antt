@@ -13,7 +13,7 @@ use Rattle.vx_ptl.specs.declared.tables.TheConstants.{PTL, DPB, NO_TIMING, TIMIN
 use Rattle.vx_rpl.specs.declared.tables.TheConstants.{REF_PIC_LIST_STRUCT}
 use Rattle.vx_sps.specs.declared.tables.TheConstants as tables
 
--- ---- the tables in groups: of each all fields are taken over by a set rewritten from another, or all are replaced (7.3.2.4)
+-- ---- the tables in groups: a rewritten set copies all fields of a group, or replaces them all (7.3.2.4)
 
 -- The ids.
 abbrev pub ids : List Section
@@ -75,6 +75,6 @@ end = always tables.END ∷ []
 abbrev pub sps_sections : List Section
 sps_sections = ids ++ (start ++ (profile ++ (resampling ++ (picture ++ (counts ++ (dpb ++ (tools ++ (timing ++ end))))))))
 
--- It reads nothing of the scope that it begins at.
+-- It depends on no number of the scope at which it begins.
 abbrev pub sps_form : Form (List ℕ)
 sps_form = sections_form sps_sections fresh

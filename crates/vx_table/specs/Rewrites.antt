@@ -111,7 +111,7 @@ PresentRewrites = (names none : List ℕ) (holds : Formula) (form : List ℕ →
 abbrev pub NothingRewrites : Type 0
 NothingRewrites = (names none s : List ℕ) → Rewrites names none done s [] s []
 
--- ---- what stands in place of others
+-- ---- items in place of others
 
 -- Values that the fields may have, as many as there are: a form at a given scope determines what that requires.
 abbrev pub AreValues : Form (List ℕ) → List ℤ → Type 0
@@ -159,7 +159,7 @@ RewrittenIsRead = (form : Form (List ℕ)) (names : List ℕ) (shown others item
     → Spells (place + length (bits_along form place is.values ++ rest)) form values (bits_along form place is.values ++ rest) left
     → (items_along form values ≡ items) × (shown_items names (items_along form values) ≡ shown) × (left ≡ rest)
 
--- ---- structures that leave names alone
+-- ---- structures that leave names unchanged
 
 abbrev pub TablesLeave : Type 0
 TablesLeave = (names : List ℕ) (rows : List Row) → hides names rows ≡ true → Leaves names (form_of rows)

@@ -11,7 +11,7 @@ use Rattle.vx_pic.specs.UnderSets.{picture_header_of}
 abbrev pub slice_seen : SliceValue × ℕ → SliceHeader
 slice_seen s = record { fields = s.0.fields; subpic = s.0.subpic; payload = s.1 }
 
--- The numbers that a slice is read at are those of this picture header and what is in force for it.
+-- The numbers under which a slice is read are those of this picture header and what is in force for it.
 pub record AreOfBegun (n : SliceNumbers) (b : Begun) : Type 0 where
   pub sps : n.sps.now ≡ b.sps
   pub pps : n.pps.now ≡ b.pps

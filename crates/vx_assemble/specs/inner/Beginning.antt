@@ -60,7 +60,7 @@ pub record AreInForce (s : State) (id : ℕ) (f : InForce) : Type 0 where
   pub found : sets_kept s id ≡ Ok (record { sps = f.sps; pps = f.pps })
   pub made : AreMade f
 
--- The PH unit of a header that doesn't be inside a slice.
+-- The PH unit of a header that isn't inside a slice.
 abbrev pub unit_in : Bool → List ℕ → Option (List ℕ)
 unit_in inside unit = cond inside None (Some unit)
 

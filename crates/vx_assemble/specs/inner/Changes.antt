@@ -71,11 +71,11 @@ with_slot slot c = record c { slices = c.slices ++ slot ∷ [] }
 abbrev pub with_slice : List ℕ → ReadSlice → CurrentPicture → CurrentPicture
 with_slice unit r c = with_slot (slot_behind (length c.bytes) unit r) (with_bytes unit c)
 
--- Of all that is kept the picture changes.
+-- Of everything that is kept, the picture changes.
 abbrev pub with_picture : CurrentPicture → State → State
 with_picture c s = record s { picture = c }
 
--- What the sets that a PPS id refers to make up is kept.
+-- What the sets of a PPS id make up is kept.
 abbrev pub is_made : ℕ → Option MadeSets → Bool
 is_made id None = false
 is_made id (Some m) = m.id == id
@@ -106,7 +106,7 @@ came_all b c = length c.slices == b.sets.slices
 abbrev pub settled : BegunPicture → Kind → State → State
 settled b k s = cond (came_all b s.picture) (with_whole b k s) s
 
--- Messages are gathered, or would pass the limit.
+-- Messages are gathered, or would exceed the limit.
 abbrev pub Gathers : Bool → List Message → State → State → Type 0
 Gathers true messages old new = new ≡ with_messages messages old
 Gathers false messages old new = (new ≡ old) × (message_limit < old.gathered_len + spelled_length messages)

@@ -58,8 +58,8 @@ abbrev pub read_fault : ReadFault → FeedFault
 read_fault read_faults.Memory = faults.Memory
 read_fault read_faults.SourceFailed = faults.SourceFailed
 
--- A feed that began to seek the next unit as `old` still seeks it: a piece was read by reads that were needed. Its source had these bytes
--- left and this count of faults then, and has these now.
+-- A feed that began to look for the next unit as `old` still looks for it: a piece was read by reads that were needed. Its source
+-- had these bytes left and this count of faults then, and has these now.
 pub record HasSought (R : Readers) (g : List ℕ) (places : List UnitPlace) (before : List Reading) (f : Feeding)
     (left left' : Option (List ℕ)) : Type 0 where
   pub piece : List ℕ
@@ -84,7 +84,7 @@ step_by (Nal header place bytes (accepted.Sps id)) = None
 step_by (Nal header place bytes (accepted.Pps id)) = None
 step_by (Nal header place bytes (accepted.Aps kind id)) = None
 
--- A feed that began to seek the next picture as `old` still seeks it: units were taken, and none of them completed one.
+-- A feed that began to look for the next picture as `old` still looks for it: units were taken, and none of them completed one.
 pub record HasPassed (R : Readers) (g : List ℕ) (places : List UnitPlace) (before : List Reading) (f : Feeding)
     (left left' : Option (List ℕ)) : Type 0 where
   pub piece : List ℕ

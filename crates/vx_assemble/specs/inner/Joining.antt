@@ -16,7 +16,7 @@ use Rattle.vx_assemble.specs.declared.state.BegunPicture.{BegunPicture}
 use Rattle.vx_assemble.specs.inner.Held.{begun_of}
 use Rattle.vx_assemble.specs.inner.Takes.{at_begun, header_read_as}
 
--- A unit of this type and TemporalId is one of a picture of such a header and type.
+-- A unit with this type and TemporalId is one of a picture with this header and type.
 abbrev pub same_picture : ℕ → ℕ → ℕ → ℕ → Result (Unit {0}) Refusal
 same_picture tid nal_type t u = do
   _ ← refuse_if (not (u == tid)) (structure rules.TEMPORAL_ID_DIFFERS)
@@ -32,7 +32,7 @@ all_there sets (slot ∷ slots) =
 abbrev pub next_slice : Numbers → ℕ → SliceHeader → Result (Unit {0}) Refusal
 next_slice layout count h = refuse_if (not (slices_before layout h == count)) (structure rules.SLICE_MISSING)
 
--- What a slice of these items names, and its quantization parameter.
+-- What a slice with these items names, and its quantization parameter.
 abbrev pub items_only : List Item → SliceHeader
 items_only items = record { fields = items; subpic = 0; payload = 0 }
 

@@ -56,7 +56,7 @@ SeesOn R bytes qs ending ps f (Ok None) = HasSeen R f bytes ps
 SeesOn R bytes qs ending ps f (Ok (Some step)) = Sees R bytes qs ending ps f (Ok step)
 SeesOn R bytes qs ending ps f (Err fault) = Sees R bytes qs ending ps f (Err fault)
 
--- A feed that began to seek the next picture as `old` still seeks it.
+-- A feed that began to look for the next picture as `old` still looks for it.
 pub record PassesOn (old f : Feeding) : Type 0 where
   pub passes : (R : Readers) → AreOfH266 R → (bytes : List ℕ) (ps qs : List Picture) (ending : Option Ending) → HasSeen R old bytes ps
       → AreSourcePictures R bytes qs ending → HasSeen R f bytes ps

@@ -37,7 +37,7 @@ abbrev pub opened_in : State → Begun → ℕ → ℕ → Result Kind Refusal
 opened_in s b t tid =
     opened_as (held_anew s && not (is_irap_or_gdr t)) (held_changed (last_held s) b.sps) (held_kind s b t tid)
 
--- What the code of counts is given.
+-- The input of the code of counts.
 pub record IsCountedBy (c : CountFields) (sps header : List Item) : Type 0 where
   pub max : 2 ^ c.lsb_bits ≡ max_lsb sps
   pub lsb : c.lsb ≡ lsb_of header

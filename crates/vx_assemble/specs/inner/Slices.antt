@@ -1,4 +1,4 @@
--- Slices, as they are put to what is kept.
+-- Slices, as they are added to what is kept.
 use Rattle.std.specs.Prelude.{◌≡◌, ℕ, cond, List, [], length, Option, Some, None}
 use Rattle.vx_pic.specs.declared.accepted.Accepted.{Accepted}
 use Rattle.vx_pic.specs.declared.accepted.Accepted.TheVariants as accepted

@@ -23,7 +23,7 @@ use Rattle.vx_assemble.specs.declared.state.State.{State}
 use Rattle.vx_assemble.specs.inner.Held.{begun_of, IsHeld}
 pub use Rattle.vx_assemble.specs.inner.Given.{Gives}
 
--- An answer, seen as something that it has.
+-- An answer, as one of what it contains.
 abbrev pub answer_by : {A B : Type 0} → (A → B) → Result A ReadError → Result B ReadError
 answer_by f (Ok a) = Ok (f a)
 answer_by f (Err e) = Err e
@@ -47,7 +47,7 @@ pub record NamesSmall (items : List Item) : Type 0 where
   pub lmcs : AreSmall (named aps.LMCS ph.ph_lmcs_aps_id items)
   pub scaling : AreSmall (named aps.SCALING ph.ph_scaling_list_aps_id items)
 
--- What a slice of this type is read at under this picture header.
+-- What a slice of this type is read under, with this picture header.
 abbrev pub at_begun : ℕ → BegunPicture → At
 at_begun t b = at_sets t b.sets.sps b.sets.pps b.header b.sets.ids b.sets.layout
 

@@ -9,7 +9,7 @@ pub record IsNextBound (bounds : List ℕ) (x v : ℕ) : Type 0 where
   pub reaches : x ≤ v
   pub first : (c : ℕ) → Contains bounds c → x ≤ c → v ≤ c
 
--- Next has at each number up to the last bound the first bound that isn't below it.
+-- `next` has at each number up to the last bound the first bound that isn't below it.
 pub record AreNextBounds (bounds next : List ℕ) : Type 0 where
   pub long : last bounds < length next
   pub each : (x : ℕ) → x < length next → IsNextBound bounds x (slice_index next x)

@@ -1,4 +1,4 @@
--- A picture's CTUs with a number at each, and what painting rectangles on them says.
+-- A picture's CTUs with a number at each, and the effect of painting rectangles on them.
 use Rattle.std.specs.Prelude.{◌≡◌, ◌≢◌, ℕ, ◌+◌, ◌*◌, ◌-◌, ◌<◌, ◌≤◌, true, List, length, take, count_by, slice_index}
 use Rattle.std.specs.List.{slice_index_or}
 use Rattle.vx_layout.specs.declared.rect.Rect.{Rect}
@@ -58,7 +58,7 @@ pub record IsMark (rects : List Rect) (k x y mark : ℕ) : Type 0 where
 abbrev pub AreMarks : Grid → List Rect → ℕ → Type 0
 AreMarks g rects k = (x y : ℕ) → x < g.width → y < g.height → IsMark rects k x y (mark_at g x y)
 
--- Each CTU bears the place, from 1 on, of the one rectangle that holds it.
+-- Each CTU has the number, from 1, of the one rectangle that contains it.
 pub record IsMapOf (g : Grid) (rects : List Rect) (w h : ℕ) : Type 0 where
   pub width_is : g.width ≡ w
   pub height_is : g.height ≡ h

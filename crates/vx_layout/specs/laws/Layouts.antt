@@ -29,7 +29,7 @@ SlicesCoverSubpicture =
     (n : Numbers) (k x y : ℕ) → IsLayout n → k < length n.subpics → x < width n → y < height n
     → count_by (λ r. holds r x y) (slices_in n k) ≡ cond (holds (subpic_at n k) x y) 1 0
 
--- What a slice holds are CTUs of the picture.
+-- A CTU of a slice is a CTU of the picture.
 abbrev pub SlicesLieInPicture : Type 0
 SlicesLieInPicture =
     (n : Numbers) (i x y : ℕ) → IsLayout n → i < length (in_order n.slices n.subpics) → holds (ordered_at n i) x y ≡ true

@@ -8,7 +8,7 @@ abbrev pub AreSame : List Part → Type 0
 AreSame [] = Unit {0}
 AreSame (p ∷ more) = p.same × AreSame more
 
--- What is answered of some of them, numbered from here on.
+-- The result for some of them, numbered from here on.
 abbrev pub Compares : List Part → ℕ → Option Difference → Type 0
 Compares parts n None = AreSame parts
 Compares parts n (Some d) = DiffersFirst parts n d

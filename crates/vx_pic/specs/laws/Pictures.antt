@@ -96,7 +96,7 @@ abbrev pub further_in : Reading → List Slice
 further_in (next_slice s) = s ∷ []
 further_in _ = []
 
--- Messages are gathered of the units since the last slice, in the order of the units.
+-- Messages are gathered from the units since the last slice, in the order of the units.
 abbrev pub GatheredByPlaces : Type 0
 GatheredByPlaces = (before : List Reading)
     → ((n : ℕ) × IsSinceSlice before n)

@@ -7,7 +7,7 @@ use Rattle.vx_pps.specs.declared.shape.PpsShape.{PpsShape}
 use Rattle.vx_pps.specs.Pps.{pps_form}
 use Rattle.vx_pps.specs.Reshaped.{IsDivision, front_items, tool_items, whole_flag}
 
--- With each list of items that says what is said of tiles and slices.
+-- For each list of items that can be the fields of tiles and slices.
 pub record StatesAll (source : List Item) (shape : PpsShape) (items : List Item) : Type 0 where
   pub all : (division : List Item) → IsDivision (is_set (whole_flag source shape)) shape division
       → items ≡ front_items (whole_flag source shape) shape ++ (division ++ tool_items source shape)

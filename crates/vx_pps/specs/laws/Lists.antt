@@ -31,7 +31,7 @@ ListGivesSlices =
     → length (slices_of_all g (group ∷ groups)) ≡ last + 1 → Follow g deltas 0 (group ∷ groups)
     → Gives (list_from g last deltas) (list_items g deltas (group ∷ groups)) (Some (slices_of_all g (group ∷ groups)))
 
--- So what is written of slices that a list can name is read back as them.
+-- So what is written of slices that a list can describe is read back as these slices.
 abbrev pub SlicesAreReadBack : Type 0
 SlicesAreReadBack =
     (g : Tiles) (slices : List Rect) (last_slice : ℕ) → IsList g slices → length slices ≡ last_slice + 1 → last_slice < 1000

@@ -81,7 +81,7 @@ KeptTellsNumbers =
 
 -- ---- tiles
 
--- Tiles as a layout takes them: at least one, and not more CTUs than a picture has.
+-- Tiles as a layout requires them: at least one, and not more CTUs than a picture has.
 pub record AreTilesInLimits (g : Tiles) : Type 0 where
   pub grid : IsGrid g
   pub columns : Rises g.columns × (last g.columns ≤ 512)
@@ -92,7 +92,7 @@ abbrev pub TilesAreInLimits : Type 0
 TilesAreInLimits =
     (items : List Item) (end : Partition) → IsPps items end → is_partitioned items ≡ true → AreTilesInLimits end.tiles
 
--- ---- what a layout is made of
+-- ---- the numbers of a layout
 
 -- Bounds of a number of CTUs, as a layout requires them: there are at least two, and not more CTUs than a picture has.
 pub record AreTileBounds (bounds : List ℕ) (total : ℕ) : Type 0 where
@@ -101,7 +101,7 @@ pub record AreTileBounds (bounds : List ℕ) (total : ℕ) : Type 0 where
   pub all : last bounds ≡ total
   pub low : total ≤ 512
 
--- Slices, as a layout takes them: there is one at least, and not more than 1,000, and each holds a CTU.
+-- Slices as a layout requires them: at least one, and at most 1,000, each with a CTU.
 pub record AreSlices (slices : List Rect) : Type 0 where
   pub some : 1 ≤ length slices
   pub few : length slices ≤ 1000

@@ -15,7 +15,7 @@ pub record PartIsWritten (form : Form (List ℕ)) (values : List ℤ) (end : Lis
   pub items : left ≡ more
   pub ends : scope ≡ end
 
--- A writer that is given what it asks for finds a value each time.
+-- A writer with suitable items finds a value each time.
 abbrev pub HasFailed : SpellError → Type 0
 HasFailed errors.Memory = Unit {0}
 HasFailed errors.NoValue = ⊥

@@ -53,6 +53,6 @@ pub record AskLittle (n : SliceNumbers) : Type 0 where
   pub points : (k m : ℕ) → points_at n.layout.now (is_set (number n.sps.now sps_entry_point_offsets_present_flag))
       (is_set (number n.sps.now sps_entropy_coding_sync_enabled_flag)) k m ≤ points_limit
 
--- What is in force by them is such.
+-- What is in force by them is bounded in this way.
 abbrev pub NumbersAreBounded : Type 0
 NumbersAreBounded = (n : SliceNumbers) → AskLittle n → IsBounded (in_force_at n)

@@ -18,7 +18,7 @@ use Rattle.vx_table.specs.Loaded.{numbers_of}
 abbrev pub no_numbers : Numbers
 no_numbers = record { x = []; y = []; w = []; h = []; treated = []; filtered = []; ids = [] }
 
--- The numbers that the items have of subpictures.
+-- The numbers of subpictures in the items.
 abbrev pub subpicture_numbers : List Item → Numbers
 subpicture_numbers items = record {
   x = numbers_of items sps.sps_subpic_ctu_top_left_x;

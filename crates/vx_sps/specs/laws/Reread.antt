@@ -38,7 +38,7 @@ id_in_plan (Many rects) i = i
 
 -- ---- the set
 
--- It says what the shape says: width, height and subpictures, which are all treated as pictures and not filtered across; its CTUs
+-- It has what the shape says: width, height and subpictures, which are all treated as pictures and not filtered across; its CTUs
 -- are those of the source.
 pub record Says (source : List Item) (shape : SpsShape) (items : List Item) : Type 0 where
   pub width : width_of items ≡ shape.width
@@ -55,8 +55,8 @@ abbrev pub ReshapedSays : Type 0
 ReshapedSays = (source items : List Item) (shape : SpsShape) → AreSpsItems source → IsShape (ctb_size_of source) shape
     → IsReshapedSps source shape items → Says source shape items
 
--- Of itself it signals its id, and of its subpictures whether it describes them, the bits of their ids, whether these are mapped by
--- either set, and whether by this one: of none that are described all is absent.
+-- It signals its own id. For its subpictures it signals whether it describes them, the bits of their ids, whether these are mapped
+-- by either set, and whether by this one; if none are described, all of this is absent.
 abbrev pub described_in : SubpicPlan → ℕ
 described_in Absent = 0
 described_in (One id_len id) = 1

@@ -63,7 +63,7 @@ abbrev pub PartsCloseAtTheEnd : Type 0
 PartsCloseAtTheEnd = (parts : List Part) (s : List ℕ) (place : ℕ) (values : List ℤ) → parts_trail_last parts ≡ true
     → Closes (parts_form parts s) place values []
 
--- ---- what structures end in
+-- ---- how structures end
 
 -- The last bits, after a place, are a one and zeros up to the byte boundary.
 pub record EndsWithStop (place : ℕ) (bits : List Bool) : Type 0 where
