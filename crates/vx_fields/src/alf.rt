@@ -3,7 +3,7 @@
 
 /// Whether the filter is on: `ph_alf_enabled_flag`, `sh_alf_enabled_flag`.
 pub const alf_enabled_flag: u16 = 681;
-/// How many sets the luma filter has: `ph_num_alf_aps_ids_luma`, `sh_num_alf_aps_ids_luma`.
+/// The number of sets of the luma filter: `ph_num_alf_aps_ids_luma`, `sh_num_alf_aps_ids_luma`.
 pub const num_alf_aps_ids_luma: u16 = 682;
 /// The id of one of these: `ph_alf_aps_id_luma`, `sh_alf_aps_id_luma`.
 pub const alf_aps_id_luma: u16 = 683;

@@ -4,7 +4,7 @@
 pub const aps_params_type: u16 = 501;
 /// The id of the set among those of its type.
 pub const aps_adaptation_parameter_set_id: u16 = 502;
-/// The bytes behind the first.
+/// The bytes after the first.
 pub const aps_body: u16 = 503;
 
 /// The numbers above, in their order.

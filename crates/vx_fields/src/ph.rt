@@ -8,7 +8,7 @@ pub const ph_non_ref_pic_flag: u16 = 601;
 pub const ph_gdr_pic_flag: u16 = 602;
 /// Whether there may be inter slices.
 pub const ph_inter_slice_allowed_flag: u16 = 603;
-/// Whether there may be intra slices; 1 where it is absent.
+/// Whether there may be intra slices; 1 if absent.
 pub const ph_intra_slice_allowed_flag: u16 = 604;
 /// The id of the picture parameter set.
 pub const ph_pic_parameter_set_id: u16 = 605;
@@ -32,13 +32,13 @@ pub const ph_chroma_residual_scale_flag: u16 = 613;
 pub const ph_explicit_scaling_list_enabled_flag: u16 = 614;
 /// The id of their adaptation parameter set.
 pub const ph_scaling_list_aps_id: u16 = 615;
-/// Whether the picture is shown; 1 where it is absent.
+/// Whether the picture is shown; 1 if absent.
 pub const ph_pic_output_flag: u16 = 616;
-/// Whether the limits of partitions are set anew.
+/// Whether the header has its own limits of partitions.
 pub const ph_partition_constraints_override_flag: u16 = 617;
 /// Intra luma: the least quadtree leaf over the least coding block, in binary logarithms.
 pub const ph_log2_diff_min_qt_min_cb_intra_slice_luma: u16 = 618;
-/// Intra luma: the most levels of multi-type trees.
+/// Intra luma: the greatest depth of multi-type trees.
 pub const ph_max_mtt_hierarchy_depth_intra_slice_luma: u16 = 619;
 /// Intra luma: the largest binary split over the least quadtree leaf, in binary logarithms.
 pub const ph_log2_diff_max_bt_min_qt_intra_slice_luma: u16 = 620;
@@ -46,7 +46,7 @@ pub const ph_log2_diff_max_bt_min_qt_intra_slice_luma: u16 = 620;
 pub const ph_log2_diff_max_tt_min_qt_intra_slice_luma: u16 = 621;
 /// Intra chroma: the least quadtree leaf over the least coding block, in binary logarithms.
 pub const ph_log2_diff_min_qt_min_cb_intra_slice_chroma: u16 = 622;
-/// Intra chroma: the most levels of multi-type trees.
+/// Intra chroma: the greatest depth of multi-type trees.
 pub const ph_max_mtt_hierarchy_depth_intra_slice_chroma: u16 = 623;
 /// Intra chroma: the largest binary split over the least quadtree leaf, in binary logarithms.
 pub const ph_log2_diff_max_bt_min_qt_intra_slice_chroma: u16 = 624;
@@ -58,7 +58,7 @@ pub const ph_cu_qp_delta_subdiv_intra_slice: u16 = 626;
 pub const ph_cu_chroma_qp_offset_subdiv_intra_slice: u16 = 627;
 /// Inter slices: the least quadtree leaf over the least coding block, in binary logarithms.
 pub const ph_log2_diff_min_qt_min_cb_inter_slice: u16 = 628;
-/// Inter slices: the most levels of multi-type trees.
+/// Inter slices: the greatest depth of multi-type trees.
 pub const ph_max_mtt_hierarchy_depth_inter_slice: u16 = 629;
 /// Inter slices: the largest binary split over the least quadtree leaf, in binary logarithms.
 pub const ph_log2_diff_max_bt_min_qt_inter_slice: u16 = 630;
@@ -70,7 +70,7 @@ pub const ph_cu_qp_delta_subdiv_inter_slice: u16 = 632;
 pub const ph_cu_chroma_qp_offset_subdiv_inter_slice: u16 = 633;
 /// Whether motion is predicted from another picture.
 pub const ph_temporal_mvp_enabled_flag: u16 = 634;
-/// Whether that picture is in list 0; 1 where it is absent.
+/// Whether that picture is in list 0; 1 if absent.
 pub const ph_collocated_from_l0_flag: u16 = 635;
 /// The place of that picture in the list.
 pub const ph_collocated_ref_idx: u16 = 636;

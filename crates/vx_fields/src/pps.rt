@@ -46,7 +46,7 @@ pub const pps_tile_column_width_minus1: u16 = 420;
 pub const pps_tile_row_height_minus1: u16 = 421;
 /// Whether loop filters cross the borders of tiles.
 pub const pps_loop_filter_across_tiles_enabled_flag: u16 = 422;
-/// Whether slices are rectangles; 1 where it is absent.
+/// Whether slices are rectangles; 1 if absent.
 pub const pps_rect_slice_flag: u16 = 423;
 /// Whether each subpicture is one slice.
 pub const pps_single_slice_per_subpic_flag: u16 = 424;
@@ -68,9 +68,9 @@ pub const pps_tile_idx_delta_val: u16 = 431;
 pub const pps_loop_filter_across_slices_enabled_flag: u16 = 432;
 /// Whether slice headers choose the start of entropy coding.
 pub const pps_cabac_init_present_flag: u16 = 433;
-/// The active entries of a list where its header says nothing, less 1.
+/// The default number of active entries of a list, less 1.
 pub const pps_num_ref_idx_default_active_minus1: u16 = 434;
-/// Whether list 1 is spelled in headers.
+/// Whether the choice of list 1 is coded in headers.
 pub const pps_rpl1_idx_present_flag: u16 = 435;
 /// Whether P slices have weights.
 pub const pps_weighted_pred_flag: u16 = 436;
@@ -78,7 +78,7 @@ pub const pps_weighted_pred_flag: u16 = 436;
 pub const pps_weighted_bipred_flag: u16 = 437;
 /// Whether motion wraps around the picture.
 pub const pps_ref_wraparound_enabled_flag: u16 = 438;
-/// The QP from which slices differ, less 26.
+/// The QP to which slices add, less 26.
 pub const pps_init_qp_minus26: u16 = 439;
 /// Whether the QP may change within a slice.
 pub const pps_cu_qp_delta_enabled_flag: u16 = 440;
@@ -106,7 +106,7 @@ pub const pps_cr_qp_offset_list: u16 = 450;
 pub const pps_joint_cbcr_qp_offset_list: u16 = 451;
 /// Whether the deblocking filter is described.
 pub const pps_deblocking_filter_control_present_flag: u16 = 452;
-/// Whether headers may describe it anew.
+/// Whether headers may describe it themselves.
 pub const pps_deblocking_filter_override_enabled_flag: u16 = 453;
 /// Whether it is off.
 pub const pps_deblocking_filter_disabled_flag: u16 = 454;

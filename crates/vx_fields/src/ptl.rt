@@ -2,7 +2,7 @@
 
 /// The profile.
 pub const general_profile_idc: u16 = 11;
-/// The tier: High where it is 1.
+/// The tier: 1 for High.
 pub const general_tier_flag: u16 = 12;
 /// The level: 16 for each major number and 3 for each minor one, so 51 is 3.1.
 pub const general_level_idc: u16 = 13;
@@ -14,7 +14,7 @@ pub const ptl_multilayer_enabled_flag: u16 = 15;
 pub const gci_present_flag: u16 = 16;
 /// Each of the 71 bits of the constraints from `gci_intra_only_constraint_flag` on.
 pub const gci_constraint_bit: u16 = 17;
-/// How many further bits of constraints follow.
+/// The number of further bits of constraints.
 pub const gci_num_additional_bits: u16 = 18;
 /// Each of these further bits.
 pub const gci_reserved_bit: u16 = 19;
@@ -22,7 +22,7 @@ pub const gci_reserved_bit: u16 = 19;
 pub const ptl_sublayer_level_present_flag: u16 = 20;
 /// The level of a sublayer; also the zeros before the first.
 pub const sublayer_level_idc: u16 = 21;
-/// How many sub-profiles follow.
+/// The number of sub-profiles.
 pub const ptl_num_sub_profiles: u16 = 22;
 /// A sub-profile.
 pub const general_sub_profile_idc: u16 = 23;

@@ -1,10 +1,10 @@
 //! Fields of reference picture lists, clause 7.3.9, and of their structures, clause 7.3.10.
 
-/// How many entries a structure has.
+/// The number of entries of a structure.
 pub const num_ref_entries: u16 = 301;
 /// Whether the low bits of its long-term entries are in headers.
 pub const ltrp_in_header_flag: u16 = 302;
-/// Whether an entry is short-term; 1 where it is absent.
+/// Whether an entry is short-term; 1 if absent.
 pub const st_ref_pic_flag: u16 = 303;
 /// The distance of a short-term entry.
 pub const abs_delta_poc_st: u16 = 304;
@@ -14,7 +14,7 @@ pub const strp_entry_sign_flag: u16 = 305;
 pub const rpls_poc_lsb_lt: u16 = 306;
 /// Whether a list is a structure of the SPS.
 pub const rpl_sps_flag: u16 = 307;
-/// Which of them it is.
+/// The index of that structure.
 pub const rpl_idx: u16 = 308;
 /// The low bits of the order count of a long-term entry, in a header.
 pub const poc_lsb_lt: u16 = 309;

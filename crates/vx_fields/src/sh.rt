@@ -4,25 +4,25 @@
 pub const sh_picture_header_in_slice_header_flag: u16 = 700;
 /// The id of the subpicture.
 pub const sh_subpic_id: u16 = 701;
-/// The place of the slice in its subpicture.
+/// The address of the slice in its subpicture.
 pub const sh_slice_address: u16 = 702;
 /// An extra bit.
 pub const sh_extra_bit: u16 = 703;
-/// The type: 0 for B, 1 for P, 2 for I; 2 where it is absent.
+/// The type: 0 for B, 1 for P, 2 for I; 2 if absent.
 pub const sh_slice_type: u16 = 704;
-/// Whether pictures before are not shown.
+/// Whether earlier pictures are not shown.
 pub const sh_no_output_of_prior_pics_flag: u16 = 705;
 /// Whether the slice uses luma mapping with chroma scaling.
 pub const sh_lmcs_used_flag: u16 = 706;
 /// Whether the slice uses scaling lists.
 pub const sh_explicit_scaling_list_used_flag: u16 = 707;
-/// Whether the active entries are counted here; 1 where it is absent.
+/// Whether the header has the number of active entries; 1 if absent.
 pub const sh_num_ref_idx_active_override_flag: u16 = 708;
 /// The active entries of a list, less 1.
 pub const sh_num_ref_idx_active_minus1: u16 = 709;
-/// Which start of entropy coding the slice has.
+/// The start of entropy coding of the slice.
 pub const sh_cabac_init_flag: u16 = 710;
-/// Whether motion is predicted from a picture of list 0; 1 where it is absent.
+/// Whether motion is predicted from a picture of list 0; 1 if absent.
 pub const sh_collocated_from_l0_flag: u16 = 711;
 /// The place of that picture in the list.
 pub const sh_collocated_ref_idx: u16 = 712;
@@ -70,7 +70,7 @@ pub const sh_slice_header_extension_data_byte: u16 = 732;
 pub const sh_entry_offset_len_minus1: u16 = 733;
 /// The distance of an entry point from the one before, less 1.
 pub const sh_entry_point_offset_minus1: u16 = 734;
-/// The alignment behind the header.
+/// The alignment after the header.
 pub const sh_byte_alignment: u16 = 735;
 
 /// The numbers above, in their order.

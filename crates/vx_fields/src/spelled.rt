@@ -6,7 +6,7 @@ ghost use Rattle.vx_fields.specs.declared.text.TheConstants.{TEXT as ALL_NAMES};
 
 use crate::text::{PLACES, TEXT};
 
-/// The name of the field with this number, as its constant has it; none of a number that no field has.
+/// Returns the name of the field with this number, as its constant has it, or `None` if no field has the number.
 pub fn name_of(field: u16) -> Option<&'static [u8]>
     ensures { option_copied result ≡ names.name_of field }
 {
@@ -15,7 +15,7 @@ pub fn name_of(field: u16) -> Option<&'static [u8]>
     (!name.is_empty()).then_some(name)
 }
 
-/// Where the name of this number begins in the text.
+/// Returns the place in the text where the name of this number begins.
 fn place_of(number: usize) -> usize
     ensures place { result ≡ names.place_of_name number }
     ensures climbs { result ≤ names.place_of_name (number + 1) }

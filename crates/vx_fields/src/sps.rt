@@ -4,7 +4,7 @@
 pub const sps_seq_parameter_set_id: u16 = 100;
 /// The id of its video parameter set; 0 for none.
 pub const sps_video_parameter_set_id: u16 = 101;
-/// The most sublayers, less 1.
+/// The greatest number of sublayers, less 1.
 pub const sps_max_sublayers_minus1: u16 = 102;
 /// The chroma format: 0 for 4:0:0, 1 for 4:2:0.
 pub const sps_chroma_format_idc: u16 = 103;
@@ -62,7 +62,7 @@ pub const sps_subpic_id_mapping_present_flag: u16 = 128;
 pub const sps_subpic_id: u16 = 129;
 /// The bits of a sample, less 8.
 pub const sps_bitdepth_minus8: u16 = 130;
-/// Whether entropy coding begins anew in each row of CTUs.
+/// Whether entropy coding starts again in each row of CTUs.
 pub const sps_entropy_coding_sync_enabled_flag: u16 = 131;
 /// Whether slice headers have entry points.
 pub const sps_entry_point_offsets_present_flag: u16 = 132;
@@ -84,21 +84,21 @@ pub const sps_extra_sh_bit_present_flag: u16 = 139;
 pub const sps_sublayer_dpb_params_flag: u16 = 140;
 /// The binary logarithm of the least luma coding block size, less 2.
 pub const sps_log2_min_luma_coding_block_size_minus2: u16 = 141;
-/// Whether picture headers may set the limits of partitions anew.
+/// Whether picture headers may have their own limits of partitions.
 pub const sps_partition_constraints_override_enabled_flag: u16 = 142;
 /// Intra luma: the least quadtree leaf over the least coding block, in binary logarithms.
 pub const sps_log2_diff_min_qt_min_cb_intra_slice_luma: u16 = 143;
-/// Intra luma: the most levels of multi-type trees.
+/// Intra luma: the greatest depth of multi-type trees.
 pub const sps_max_mtt_hierarchy_depth_intra_slice_luma: u16 = 144;
 /// Intra luma: the largest binary split over the least quadtree leaf, in binary logarithms.
 pub const sps_log2_diff_max_bt_min_qt_intra_slice_luma: u16 = 145;
 /// Intra luma: the largest ternary split over the least quadtree leaf, in binary logarithms.
 pub const sps_log2_diff_max_tt_min_qt_intra_slice_luma: u16 = 146;
-/// Whether luma and chroma have trees of their own in intra slices.
+/// Whether luma and chroma have separate trees in intra slices.
 pub const sps_qtbtt_dual_tree_intra_flag: u16 = 147;
 /// Intra chroma: the least quadtree leaf over the least coding block, in binary logarithms.
 pub const sps_log2_diff_min_qt_min_cb_intra_slice_chroma: u16 = 148;
-/// Intra chroma: the most levels of multi-type trees.
+/// Intra chroma: the greatest depth of multi-type trees.
 pub const sps_max_mtt_hierarchy_depth_intra_slice_chroma: u16 = 149;
 /// Intra chroma: the largest binary split over the least quadtree leaf, in binary logarithms.
 pub const sps_log2_diff_max_bt_min_qt_intra_slice_chroma: u16 = 150;
@@ -106,7 +106,7 @@ pub const sps_log2_diff_max_bt_min_qt_intra_slice_chroma: u16 = 150;
 pub const sps_log2_diff_max_tt_min_qt_intra_slice_chroma: u16 = 151;
 /// Inter slices: the least quadtree leaf over the least coding block, in binary logarithms.
 pub const sps_log2_diff_min_qt_min_cb_inter_slice: u16 = 152;
-/// Inter slices: the most levels of multi-type trees.
+/// Inter slices: the greatest depth of multi-type trees.
 pub const sps_max_mtt_hierarchy_depth_inter_slice: u16 = 153;
 /// Inter slices: the largest binary split over the least quadtree leaf, in binary logarithms.
 pub const sps_log2_diff_max_bt_min_qt_inter_slice: u16 = 154;
@@ -130,7 +130,7 @@ pub const sps_explicit_mts_inter_enabled_flag: u16 = 162;
 pub const sps_lfnst_enabled_flag: u16 = 163;
 /// Whether chroma residuals may be coded jointly.
 pub const sps_joint_cbcr_enabled_flag: u16 = 164;
-/// Whether there is one chroma QP table alone.
+/// Whether there is only one chroma QP table.
 pub const sps_same_qp_table_for_chroma_flag: u16 = 165;
 /// The luma QP at which a chroma QP table begins, less 26.
 pub const sps_qp_table_start_minus26: u16 = 166;
@@ -138,7 +138,7 @@ pub const sps_qp_table_start_minus26: u16 = 166;
 pub const sps_num_points_in_qp_table_minus1: u16 = 167;
 /// The step of the luma QP to a point, less 1.
 pub const sps_delta_qp_in_val_minus1: u16 = 168;
-/// The step of the chroma QP to a point, against the luma QP.
+/// The step of the chroma QP to a point, relative to the luma QP.
 pub const sps_delta_qp_diff_val: u16 = 169;
 /// Whether there is sample adaptive offset.
 pub const sps_sao_enabled_flag: u16 = 170;
@@ -158,13 +158,13 @@ pub const sps_long_term_ref_pics_flag: u16 = 176;
 pub const sps_idr_rpl_present_flag: u16 = 177;
 /// Whether list 1 has the reference structures of list 0.
 pub const sps_rpl1_same_as_rpl0_flag: u16 = 178;
-/// How many reference structures a list has here.
+/// The number of reference structures of a list.
 pub const sps_num_ref_pic_lists: u16 = 179;
 /// Whether motion may wrap around the picture.
 pub const sps_ref_wraparound_enabled_flag: u16 = 180;
 /// Whether motion is predicted from another picture.
 pub const sps_temporal_mvp_enabled_flag: u16 = 181;
-/// Whether it is predicted so for subblocks.
+/// Whether it is predicted in this way for subblocks.
 pub const sps_sbtmvp_enabled_flag: u16 = 182;
 /// Whether the resolution of motion is adaptive.
 pub const sps_amvr_enabled_flag: u16 = 183;
@@ -180,15 +180,15 @@ pub const sps_dmvr_enabled_flag: u16 = 187;
 pub const sps_dmvr_control_present_in_ph_flag: u16 = 188;
 /// Whether there is merge mode with motion differences.
 pub const sps_mmvd_enabled_flag: u16 = 189;
-/// Whether these may be whole samples alone.
+/// Whether these may only be whole samples.
 pub const sps_mmvd_fullpel_only_enabled_flag: u16 = 190;
-/// 6 less the most merge candidates.
+/// 6 less the greatest number of merge candidates.
 pub const sps_six_minus_max_num_merge_cand: u16 = 191;
 /// Whether there are subblock transforms.
 pub const sps_sbt_enabled_flag: u16 = 192;
 /// Whether there is affine motion.
 pub const sps_affine_enabled_flag: u16 = 193;
-/// 5 less the most subblock merge candidates.
+/// 5 less the greatest number of subblock merge candidates.
 pub const sps_five_minus_max_num_subblock_merge_cand: u16 = 194;
 /// Whether affine motion may have six parameters.
 pub const sps_6param_affine_enabled_flag: u16 = 195;
@@ -204,7 +204,7 @@ pub const sps_bcw_enabled_flag: u16 = 199;
 pub const sps_ciip_enabled_flag: u16 = 200;
 /// Whether there is geometric partition.
 pub const sps_gpm_enabled_flag: u16 = 201;
-/// The most merge candidates less the most of geometric partition.
+/// The greatest number of merge candidates less that of geometric partition.
 pub const sps_max_num_merge_cand_minus_max_num_gpm_cand: u16 = 202;
 /// The binary logarithm of the parallel merge level, less 2.
 pub const sps_log2_parallel_merge_level_minus2: u16 = 203;
@@ -226,7 +226,7 @@ pub const sps_palette_enabled_flag: u16 = 210;
 pub const sps_min_qp_prime_ts: u16 = 211;
 /// Whether there is intra block copy.
 pub const sps_ibc_enabled_flag: u16 = 212;
-/// 6 less the most merge candidates of intra block copy.
+/// 6 less the greatest number of merge candidates of intra block copy.
 pub const sps_six_minus_max_num_ibc_merge_cand: u16 = 213;
 /// Whether deblocking adapts to luma.
 pub const sps_ladf_enabled_flag: u16 = 214;

@@ -24,7 +24,7 @@ pub const cpb_size_du_scale: u16 = 50;
 pub const hrd_cpb_cnt_minus1: u16 = 51;
 /// Whether the rate of pictures is fixed.
 pub const fixed_pic_rate_general_flag: u16 = 52;
-/// Whether it is fixed within a CVS; 1 where it is absent.
+/// Whether it is fixed within a CVS; 1 if absent.
 pub const fixed_pic_rate_within_cvs_flag: u16 = 53;
 /// The ticks between pictures, less 1.
 pub const elemental_duration_in_tc_minus1: u16 = 54;

@@ -4,7 +4,7 @@
 pub const luma_log2_weight_denom: u16 = 321;
 /// That of chroma weights, as a difference.
 pub const delta_chroma_log2_weight_denom: u16 = 322;
-/// How many weights list 0 has.
+/// The number of weights of list 0.
 pub const num_l0_weights: u16 = 323;
 /// Whether an entry has a luma weight: `luma_weight_l0_flag`, `luma_weight_l1_flag`.
 pub const luma_weight_flag: u16 = 324;
@@ -18,7 +18,7 @@ pub const luma_offset: u16 = 327;
 pub const delta_chroma_weight: u16 = 328;
 /// A chroma offset, as a difference: `delta_chroma_offset_l0`, `delta_chroma_offset_l1`.
 pub const delta_chroma_offset: u16 = 329;
-/// How many weights list 1 has.
+/// The number of weights of list 1.
 pub const num_l1_weights: u16 = 330;
 
 /// The numbers above, in their order.

@@ -20,12 +20,12 @@ use Rattle.vx_fields.specs.declared.names.pps.TheConstants as names_pps
 use Rattle.vx_fields.specs.declared.names.ph.TheConstants as names_ph
 use Rattle.vx_fields.specs.declared.names.sh.TheConstants as names_sh
 
--- fields, in the order of their numbers
+-- The fields, in the order of their numbers.
 abbrev pub numbered_fields : List ℕ
 numbered_fields = vps.ALL ++ (ptl.ALL ++ (dpb.ALL ++ (timing.ALL ++ (sps.ALL ++ (rpl.ALL ++ (weights.ALL
     ++ (pps.ALL ++ (aps.ALL ++ (ph.ALL ++ (alf.ALL ++ sh.ALL))))))))))
 
--- names for numbers that tables compute
+-- Names for numbers that tables compute.
 abbrev pub names : List ℕ
 names = names_ptl.ALL ++ (names_rpl.ALL ++ (names_sps.ALL ++ (names_pps.ALL ++ (names_ph.ALL ++ names_sh.ALL))))
 

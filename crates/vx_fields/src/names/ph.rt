@@ -1,6 +1,6 @@
 //! Names in the tables of a picture header: numbers 960 to 989.
 
-/// How many extra bits a picture header has: those of NumExtraPhBits (clause 7.4.3.4).
+/// The number of extra bits of a picture header: NumExtraPhBits (clause 7.4.3.4).
 pub const EXTRA_PH_BITS: u16 = 960;
 /// The number of an extra bit.
 pub const EXTRA_BIT: u16 = 961;
@@ -8,13 +8,13 @@ pub const EXTRA_BIT: u16 = 961;
 pub const FILTER_SET: u16 = 962;
 /// Whether other pictures may refer to the picture.
 pub const MAY_BE_REF: u16 = 963;
-/// The entries of list 0, where the collocated picture is in it.
+/// The number of entries of list 0, if the collocated picture is in it.
 pub const COLLOCATED_IN_0: u16 = 964;
 /// Whether the collocated picture is in list 1.
 pub const IS_IN_1: u16 = 965;
-/// The entries of list 1, where the collocated picture is in it.
+/// The number of entries of list 1, if the collocated picture is in it.
 pub const COLLOCATED_IN_1: u16 = 966;
-/// The entries of the list that the collocated picture is in.
+/// The number of entries of the list that contains the collocated picture.
 pub const COLLOCATED_IN: u16 = 967;
 /// Whether slice headers have the lists.
 pub const LISTS_IN_SLICES: u16 = 968;

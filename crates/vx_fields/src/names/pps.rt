@@ -8,11 +8,11 @@ pub const LIST: u16 = 921;
 pub const OFFSET: u16 = 922;
 /// Whether a picture may have several tiles and slices.
 pub const PARTITIONED: u16 = 923;
-/// Whether it is said where the deblocking filter's parameters are.
+/// Whether the place of the deblocking filter's parameters is coded.
 pub const HAS_DBF_INFO: u16 = 924;
 /// Whether slices have weights.
 pub const IS_WEIGHTED: u16 = 925;
-/// Whether it is said where weights are.
+/// Whether the place of weights is coded.
 pub const HAS_WP_INFO: u16 = 926;
 
 /// The numbers above, in their order.

@@ -6,13 +6,13 @@ pub const TURN: u16 = 800;
 pub const CPB: u16 = 801;
 /// The number of a kind of HRD parameters: NAL or VCL.
 pub const KIND: u16 = 802;
-/// How many sublayers have a level.
+/// The number of sublayers that have a level.
 pub const WITH_LEVEL: u16 = 803;
-/// How many sublayers below the highest have an entry.
+/// The number of sublayers below the highest that have an entry.
 pub const LOWER: u16 = 804;
 /// Whether there are HRD parameters.
 pub const HRD: u16 = 805;
-/// How many of the NAL and the VCL HRD parameters there are.
+/// The number of kinds of HRD parameters that are present, out of NAL and VCL.
 pub const KINDS: u16 = 806;
 
 /// The numbers above, in their order.

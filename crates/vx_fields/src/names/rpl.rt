@@ -1,18 +1,18 @@
 //! Names in the tables of reference picture lists and weights: numbers 840 to 879.
 
-/// The structures that an SPS has for a list.
+/// The number of structures that an SPS has for a list.
 pub const NUM_STRUCTURES: u16 = 840;
-/// Which of them a structure is; their number for one of a header.
+/// The index of a structure among them; their number for one of a header.
 pub const STRUCTURE: u16 = 841;
 /// Whether the list of a header is list 0.
 pub const IS_LIST_0: u16 = 842;
-/// Whether a header spells what its list takes of the SPS.
+/// Whether a header codes what its list takes from the SPS.
 pub const IS_SPELLED: u16 = 843;
 /// Whether an SPS has several structures for a list.
 pub const HAS_SEVERAL: u16 = 844;
 /// Whether a header's list has an index into them.
 pub const HAS_INDEX: u16 = 845;
-/// Whether that index leads past them.
+/// Whether that index is past them.
 pub const LEADS_PAST: u16 = 846;
 /// Whether a structure is one of an SPS.
 pub const IN_SPS: u16 = 847;
@@ -28,21 +28,21 @@ pub const MAY_BE_0: u16 = 851;
 pub const HAS_SIGN: u16 = 852;
 /// Whether an entry is a long-term one.
 pub const IS_LONG: u16 = 853;
-/// How many long-term entries there are so far.
+/// The number of long-term entries so far.
 pub const LONG_ENTRIES: u16 = 854;
-/// The entries of list 0.
+/// The number of entries of list 0.
 pub const ENTRIES_0: u16 = 855;
-/// The entries of list 1.
+/// The number of entries of list 1.
 pub const ENTRIES_1: u16 = 856;
 /// NumRefIdxActive[ 0 ].
 pub const ACTIVE_0: u16 = 857;
 /// NumRefIdxActive[ 1 ].
 pub const ACTIVE_1: u16 = 858;
-/// The weights of a list.
+/// The number of weights of a list.
 pub const NUM_WEIGHTS: u16 = 859;
-/// The most weights that a list may have.
+/// The greatest number of weights that a list may have.
 pub const MOST_WEIGHTS: u16 = 860;
-/// Whether the number of list 1's weights is spelled.
+/// Whether the number of list 1's weights is coded.
 pub const HAS_WEIGHTS_1: u16 = 861;
 /// The luma flags of the weights so far, as the bits of a number.
 pub const LUMA_FLAGS: u16 = 862;

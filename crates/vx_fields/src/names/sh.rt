@@ -2,19 +2,19 @@
 
 /// The type of the NAL unit.
 pub const NAL_TYPE: u16 = 990;
-/// How many subpictures the picture has.
+/// The number of subpictures of the picture.
 pub const NUM_SUBPICS: u16 = 991;
-/// The index of the slice's subpicture; past the last one where none has its id.
+/// The index of the slice's subpicture, or the index after the last one if none has its id.
 pub const SUBPIC: u16 = 992;
-/// The slices of that subpicture.
+/// The number of slices of that subpicture.
 pub const NUM_SLICES: u16 = 993;
 /// NumEntryPoints.
 pub const NUM_ENTRY_POINTS: u16 = 994;
-/// The extra bits of a slice header.
+/// The number of extra bits of a slice header.
 pub const EXTRA_SH_BITS: u16 = 995;
-/// The active entries of list 0 where a slice header counts none, less 1.
+/// The default number of active entries of list 0, less 1.
 pub const DEFAULT_ACTIVE_0: u16 = 996;
-/// The active entries of list 1 where a slice header counts none, less 1.
+/// The default number of active entries of list 1, less 1.
 pub const DEFAULT_ACTIVE_1: u16 = 997;
 /// The number of an extra bit.
 pub const EXTRA_SH_BIT: u16 = 998;
@@ -32,9 +32,9 @@ pub const HAS_LISTS: u16 = 1003;
 pub const MAY_COUNT_0: u16 = 1004;
 /// Whether the active entries of list 1 may be counted.
 pub const MAY_COUNT_1: u16 = 1005;
-/// Whether the header names the picture that motion is predicted from.
+/// Whether the header names the picture from which motion is predicted.
 pub const NAMES_COLLOCATED: u16 = 1006;
-/// The active entries of the list that picture is in.
+/// The number of active entries of the list that contains that picture.
 pub const COLLOCATED_AMONG: u16 = 1007;
 /// Whether the header has prediction weights.
 pub const HAS_WEIGHTS: u16 = 1008;

@@ -2,27 +2,27 @@
 
 /// The CTU size: CtbSizeY.
 pub const CTB_SIZE: u16 = 880;
-/// The columns of CTUs of the largest picture.
+/// The number of columns of CTUs of the largest picture.
 pub const WIDTH_IN_CTBS: u16 = 881;
-/// Its rows of CTUs.
+/// The number of its rows of CTUs.
 pub const HEIGHT_IN_CTBS: u16 = 882;
 /// Whether there are several columns.
 pub const IS_WIDE: u16 = 883;
 /// Whether there are several rows.
 pub const IS_HIGH: u16 = 884;
-/// The bits of a column.
+/// The number of bits of a column.
 pub const X_BITS: u16 = 885;
-/// The bits of a row.
+/// The number of bits of a row.
 pub const Y_BITS: u16 = 886;
-/// How many subpictures have a place: all, where there are several.
+/// The number of subpictures that have a place: all, if there are several.
 pub const NUM_PLACES: u16 = 887;
 /// The number of a subpicture.
 pub const SUBPIC: u16 = 888;
-/// Whether a subpicture has the size of the first, and stands on the grid of that size.
+/// Whether a subpicture has the size of the first, and is on the grid of that size.
 pub const LIKE_FIRST: u16 = 889;
 /// The number of an extra bit.
 pub const EXTRA_BIT: u16 = 890;
-/// How many chroma QP tables there are.
+/// The number of chroma QP tables.
 pub const NUM_QP_TABLES: u16 = 891;
 /// The number of a chroma QP table.
 pub const QP_TABLE: u16 = 892;
