@@ -1,7 +1,7 @@
-//! Laws of the byte stream. A law is a function without a body whose contract states it.
+//! Laws of the byte stream. A law is a function that does nothing; its contract states it.
 ghost use Rattle.vx_annexb.specs.Laws.{StreamIsUnique, StreamExists, StreamGoesOn, UnitsCanStand, StreamIsAnnexB, AnnexBIsStream, WrittenIsAnnexB, WrittenIsStream, EscapedIsUnique, EscapedExists, EscapedJoins, EscapedSplits, UnescapedJoins, EscapedIsShort, EscapedIsInverse, StrayEndsStream, SeenStays, LaterUnseen};
 
-/// If bytes have two lists of units with their endings, then these are the same.
+/// The bytes determine their units and the ending after them.
 pub fn stream_is_unique()
     ensures { StreamIsUnique }
 {}
@@ -17,8 +17,8 @@ pub fn stream_is_annex_b()
     ensures { StreamIsAnnexB }
 {}
 
-/// If bytes are zeros, and then for each unit 00 00 01, the unit and zeros, then they have these units and no
-/// refusal, provided that the units can stand in a byte stream (H.266 B.2).
+/// If units can stand in a byte stream, then it has these units and no refusal (H.266 B.2). The byte stream is zeros, and
+/// then for each unit 00 00 01, the unit and zeros.
 pub fn annex_b_is_stream()
     ensures { AnnexBIsStream }
 {}
@@ -46,7 +46,7 @@ pub fn stream_goes_on()
     ensures { StreamGoesOn }
 {}
 
-/// If two units are the escaped form of the same bytes, then they are equal.
+/// The escaped form of bytes is unique.
 pub fn escaped_is_unique()
     ensures { EscapedIsUnique }
 {}
@@ -73,12 +73,12 @@ pub fn unescaped_joins()
     ensures { UnescapedJoins }
 {}
 
-/// If bytes are escaped, then at most one byte is added for every two.
+/// Escaping adds at most one byte for every two.
 pub fn escaped_is_short()
     ensures { EscapedIsShort }
 {}
 
-/// If bytes are escaped and unescaped, or unescaped and escaped, then the result is the same bytes.
+/// Unescaping and escaping undo each other.
 pub fn escaped_is_inverse()
     ensures { EscapedIsInverse }
 {}

@@ -212,10 +212,10 @@ impl UnitReader {
         })
     }
 
-    /// Returns the next complete unit among the bytes read so far, or `None` if more bytes are needed or the
-    /// source has ended. Never reads.
+    /// Returns the next complete unit among the bytes read so far. Never reads.
     ///
-    /// More bytes are needed if those read contain neither the end of a further unit nor a stray byte.
+    /// Returns `None` if the source has ended, or if more bytes are needed: those read contain neither the end of a further
+    /// unit nor a stray byte.
     ///
     /// # Errors
     ///
@@ -241,8 +241,7 @@ impl UnitReader {
         Ok(None)
     }
 
-    /// Returns whether the source may be read on: it has not ended, has not exceeded the limit, and has not
-    /// failed.
+    /// Returns whether the source may be read on. It has then not ended, not exceeded the limit, and not failed.
     pub fn is_open(&self) -> bool
         ensures open { IsTrue result → IsOpen self.now }
         ensures closed { ¬ IsTrue result → IsSome self.now.closed }
@@ -288,9 +287,10 @@ impl UnitReader {
         }
     }
 
-    /// Appends a prefix of `piece` as if it had been read, and returns its length: at most 65,536 bytes, and at
-    /// most 2^40 + 1 in all. Call it only after `next` has returned `None`. Spans returned before become
-    /// invalid.
+    /// Appends a prefix of `piece` as if it had been read, and returns its length.
+    ///
+    /// The length is at most 65,536 bytes, and at most 2^40 + 1 in all. Call it only after `next` has returned `None`.
+    /// Spans returned before become invalid.
     ///
     /// # Errors
     ///

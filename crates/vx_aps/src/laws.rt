@@ -1,7 +1,7 @@
-//! Laws of adaptation parameter sets. A law is a function without a body whose contract states it.
+//! Laws of adaptation parameter sets. A law is a function that does nothing; its contract states it.
 ghost use Rattle.vx_aps.specs.laws.Answers.{OneAnswer, SpelledIsAps};
 
-/// If bytes are one set, are dropped, or are refused for a cause, then they are nothing else.
+/// Bytes have at most one answer: they are one set, or dropped, or refused for one cause.
 pub fn one_answer()
     ensures { OneAnswer }
 {}

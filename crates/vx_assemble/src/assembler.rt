@@ -109,8 +109,9 @@ impl Assembler {
         StructureFields::new(self.alloc)
     }
 
-    /// Returns the fields of a unit, as framing returns it, after the units taken: all, or those before the first that is
-    /// refused.
+    /// Returns the fields of a unit after the units taken: all, or those before the first that is refused.
+    ///
+    /// The unit is one as framing returns it.
     ///
     /// # Errors
     ///
@@ -153,9 +154,9 @@ impl Assembler {
         Ok(())
     }
 
-    /// Returns the items of the set that was taken last, if `what` is its result; otherwise, or after another unit, `None`.
+    /// Returns the items of the set that was taken last, if `what` is its result.
     ///
-    /// Those of an APS are its type and its id.
+    /// Returns `None` otherwise, and after another unit. The items of an APS are its type and its id.
     pub fn fields(&self, what: Accepted) -> Option<&Fields>
         ensures taken { (r : Reading) (before : List Reading) → Stands self.now (r ∷ before) → what ≡ told_of r before
             → option_copied result ≡ items_of r }

@@ -349,7 +349,8 @@ impl Feed {
         }
     }
 
-    /// Returns whether the source may be read on: it has not ended, has not exceeded the limit, and the feed has not stopped.
+    /// Returns whether the source may be read on. It has then not ended and not exceeded the limit, and the feed has not
+    /// stopped.
     pub fn is_open(&self) -> bool
         ensures open { IsTrue result → IsOpen self.now }
         ensures closed { ¬ IsTrue result → ¬ IsOpen self.now }
@@ -368,7 +369,7 @@ impl Feed {
     /// - `Memory` if memory runs out; nothing is read.
     /// - `SourceFailed` if the read failed.
     ///
-    /// After either, every call returns `Stopped`.
+    /// After an error, the feed has stopped: `next` and `take` return `Stopped`.
     pub fn read(&mut self, source: &mut dyn Source) -> Result<(), ReadFault>
         requires open { IsOpen self.old }
         requires sought { IsSought self.old.reader.splitter }
@@ -402,9 +403,9 @@ impl Feed {
         self.units
     }
 
-    /// Returns the items of the set that was taken last, if `what` is its result; otherwise, or after another unit, `None`.
+    /// Returns the items of the set that was taken last, if `what` is its result.
     ///
-    /// Those of an APS are its type and its id.
+    /// Returns `None` otherwise, and after another unit. The items of an APS are its type and its id.
     pub fn fields(&self, what: Accepted) -> Option<&Fields>
         ensures taken { (r : Reading) (before : List Reading) → Stands self.now.assembler (r ∷ before) → what ≡ told_of r before
             → option_copied result ≡ items_of r }
@@ -523,12 +524,13 @@ impl Feed {
     ghost use Rattle.vx_assemble.specs.Feed.{HasFed, IsOpen, bytes_held, most_held};
     ghost use Rattle.vx_assemble.specs.declared.fault.First.TheVariants as firsts;
 
-    /// Appends a prefix of `piece` as if it had been read, and returns its length: at most 65,536 bytes, and at most 2^40 + 1 in
-    /// all. Call it only after `next` has returned `None`.
+    /// Appends a prefix of `piece` as if it had been read, and returns its length.
+    ///
+    /// The length is at most 65,536 bytes, and at most 2^40 + 1 in all. Call it only after `next` has returned `None`.
     ///
     /// # Errors
     ///
-    /// `AllocError` if memory runs out; nothing is taken, and every later call returns `Stopped`.
+    /// `AllocError` if memory runs out. Nothing is taken, and the feed has stopped: `next` and `take` return `Stopped`.
     pub fn feed(&mut self, piece: &[u8]) -> Result<usize, AllocError>
         requires open { IsOpen self.old }
         requires sought { IsSought self.old.reader.splitter }

@@ -7,7 +7,7 @@ use crate::list::{CopyList, Item};
 use std::alloc::{AllocError, Global};
 use std::marker::Model;
 
-/// A list of the fields of a structure that are kept when it is rewritten, in the order of their bits.
+/// A list of the kept fields of a structure, in the order of their bits. Kept fields stay when a structure is rewritten.
 ///
 /// *Model:* the list of their items.
 #[derive(Drop)]

@@ -1,10 +1,9 @@
-//! Laws of the codes. A law is a function without a body whose contract states it.
+//! Laws of the codes. A law is a function that does nothing; its contract states it.
 ghost use Rattle.std.specs.Prelude.{ℕ, ◌^◌, ◌<◌};
 ghost use Rattle.vx_bits.specs.Codes.{fixed, exp_golomb, signed_exp_golomb, IsCodeNumber, code_number};
 ghost use Rattle.vx_bits.specs.laws.Codes.{TellsApart, IsBinary, IsParsed, IsMapped, BeginsInThreeWays, BeginsInOneWay};
 
-/// If bits begin with u(n) of a number, then they determine that number, and no code of n bits is a proper
-/// prefix of another.
+/// Bits that begin with u(n) of a number determine that number, and no code of n bits is a proper prefix of another.
 pub fn fixed_tells_apart()
     ensures { (n : ℕ) → TellsApart (λ v. v < 2 ^ n) (fixed n) }
 {}
@@ -14,31 +13,27 @@ pub fn fixed_is_binary()
     ensures { IsBinary }
 {}
 
-/// If bits are n zeros, a one and n further bits, n below 32, then they are the code ue(v) of the number that
-/// H.266 clause 9.2 parses from them.
+/// The codes of ue(v) are those that H.266 clause 9.2 parses, with the numbers that it gives them.
 pub fn exp_golomb_is_parsed()
     ensures { IsParsed }
 {}
 
-/// If se(v) has the code of a codeNum, then its value is the one that H.266 clause 9.2.2 maps to that
-/// codeNum, and no other.
+/// Each codeNum of se(v) has the value of H.266 clause 9.2.2, and no value has another codeNum.
 pub fn signed_exp_golomb_is_mapped()
     ensures { IsMapped }
 {}
 
-/// If bits begin with ue(v) of a number, then they determine that number, and no code is a proper prefix of
-/// another.
+/// Bits that begin with ue(v) of a number determine that number, and no code is a proper prefix of another.
 pub fn exp_golomb_tells_apart()
     ensures { TellsApart IsCodeNumber exp_golomb }
 {}
 
-/// If bits begin with se(v) of a number, then they determine that number, and no code is a proper prefix of
-/// another.
+/// Bits that begin with se(v) of a number determine that number, and no code is a proper prefix of another.
 pub fn signed_exp_golomb_tells_apart()
     ensures { TellsApart (λ v. IsCodeNumber (code_number v)) signed_exp_golomb }
 {}
 
-/// All bits begin with a code of ue(v), end within one, or begin with 32 zeros, and only one of these holds.
+/// All bits begin with a code of ue(v), end within one, or begin with 32 zeros. Only one of these holds.
 pub fn bits_begin_in_one_way()
     ensures some { BeginsInThreeWays }
     ensures only { BeginsInOneWay }

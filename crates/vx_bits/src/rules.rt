@@ -79,8 +79,7 @@ pub const SET_MISSING: u8 = 1;
 pub const SLICE_WITHOUT_HEADER: u8 = 2;
 /// S3: a set comes between the slices of a picture.
 pub const SET_INSIDE_PICTURE: u8 = 3;
-/// S4: a picture lacks a slice when the next picture or the end comes, or another slice than the next one
-/// comes.
+/// S4: a picture lacks a slice when the next picture or the end comes, or a slice comes out of order.
 pub const SLICE_MISSING: u8 = 4;
 /// S5: a slice names a subpicture that the picture doesn't have.
 pub const UNKNOWN_SUBPIC_ID: u8 = 5;

@@ -6,7 +6,7 @@ ghost use Rattle.vx_fields.specs.declared.text.TheConstants.{TEXT as ALL_NAMES};
 
 use crate::text::{PLACES, TEXT};
 
-/// Returns the name of the field with this number, as its constant has it, or `None` if no field has the number.
+/// Returns the name of the field with a number, as its constant has it, or `None` if there is no such field.
 pub fn name_of(field: u16) -> Option<&'static [u8]>
     ensures { option_copied result ≡ names.name_of field }
 {

@@ -1,4 +1,4 @@
-//! Laws on regions and their lines. A law is a function without a body whose contract states it.
+//! Laws on regions and their lines. A law is a function that does nothing; its contract states it.
 ghost use Rattle.vx_fit.specs.laws.Fitting.{BorderIsRegions, FaultlessFits, FitFaultIsOne, FittingHasNoFault, FrameOfRegions, KeepingHasNoFault, LinesAreOne, LinesFaultIsOne};
 
 /// If regions have a fault, then they have no other one, and if they fit together, then they have none.
@@ -26,7 +26,7 @@ pub fn lines_are_one()
 {}
 
 /// If regions fit together, and sources of their sizes in them all keep their lines, then the frame is a layout, also as
-/// one subpicture; its slices can be listed tile by tile, and its region k is source k.
+/// one subpicture. Its slices can be listed tile by tile, and its region k is source k.
 pub fn frame_of_regions()
     ensures { FrameOfRegions }
 {}

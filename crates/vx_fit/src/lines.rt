@@ -18,7 +18,7 @@ pub enum LineError {
     /// Memory ran out.
     #[error("out of memory")]
     Memory,
-    /// The lowest region that doesn't keep its tile lines: a line passes through it that isn't its own, or one of its lines
+    /// The lowest region that doesn't keep its tile lines. A line passes through it that isn't its own, or one of its lines
     /// is missing, or it doesn't follow the region above it although the line between the two is left out.
     #[error("region {0} doesn't keep its tile lines")]
     Lines(u16),
@@ -37,8 +37,9 @@ impl From<AllocError> for LineError {
 
 /// Returns the bounds of the tile columns and tile rows of the frame that regions make up, in CTUs.
 ///
-/// `corners` are the regions in CTUs, which must fit together, and `parts` the pictures in them, with their sizes. Takes
-/// memory only for the result.
+/// `corners` are the regions in CTUs, which must fit together, and `parts` the pictures in them, with their sizes. A border
+/// between two regions, one below the other, is left out if a region next to them requires it. Takes memory only for the
+/// result.
 ///
 /// # Errors
 ///

@@ -9,13 +9,15 @@ ghost use Rattle.vx_fit.specs.inner.Searches.{areas};
 
 use crate::placed::{FitFault, GREATEST_SIZE, Placed};
 
-/// Returns the width and height, in luma samples, of the frame that regions make up, for CTUs of `ctb` times `ctb` samples.
+/// Returns the width and height of the frame that regions make up, in luma samples.
 ///
+/// CTUs have `ctb` times `ctb` samples. Regions fit if the frame is at most 16,384 wide and high, each corner is on the
+/// grid of CTUs, no two regions overlap, no position is free, and no CTU has its left or upper neighbour in a later region.
 /// Takes no memory, and time with the square of the number of regions.
 ///
 /// # Errors
 ///
-/// The first of the regions' faults, in the order of [`FitFault`], exactly if there is one.
+/// The first of the regions' faults, in the order of [`FitFault`](crate::FitFault), exactly if there is one.
 pub fn fit_regions(placed: &[Placed], ctb: u32) -> Result<(u32, u32), FitFault>
     requires count { (1 ≤ length placed.now) × (length placed.now ≤ 64) }
     requires numbers { All IsInRange placed.now }

@@ -36,7 +36,8 @@ pub trait Source: Drop {
     ///
     /// # Errors
     ///
-    /// `SourceFailed` if the read failed, only with a fault counted. It takes nothing from the source; `into` is unspecified.
+    /// `SourceFailed` if the read failed. The count of faults then rises, up to its last value. Nothing is taken
+    /// from the source, and `into` is unspecified.
     fn read(&mut self, into: &mut [u8]) -> Result<usize, SourceFailed>
         ensures bound { ReadsAtMost result into.new }
         ensures bytes { ReadConsumes (bytes_left self.old) (bytes_left self.new) result into.new }

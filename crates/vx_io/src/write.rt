@@ -34,7 +34,7 @@ pub trait Sink {
     ///
     /// # Errors
     ///
-    /// `SinkFailed` if the write failed, only with a fault counted. It takes nothing.
+    /// `SinkFailed` if the write failed. The count of faults then rises, up to its last value. Nothing is taken.
     fn write(&mut self, piece: &[u8]) -> Result<usize, SinkFailed>
         ensures bound { WritesAtMost result piece.now }
         ensures bytes { WriteAppends (bytes_taken self.old) (bytes_taken self.new) result piece.now }

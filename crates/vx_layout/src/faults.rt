@@ -17,9 +17,9 @@ use crate::paint::map_of;
 use crate::rect::RectList;
 use std::alloc::Global;
 
-/// Checks for SUBPICS_FAULT: a CTU lies in no subpicture or in two, or a subpicture extends past the picture or has no CTU.
+/// Checks for SUBPICS_FAULT, and returns a map of the picture on which each CTU has the number of its subpicture, from 1.
 ///
-/// Otherwise returns a map of the picture on which each CTU has the number of its subpicture, from 1.
+/// The fault: a CTU lies in no subpicture or in two, or a subpicture extends past the picture or has no CTU.
 pub fn check_subpics(alloc: Global, numbers: &Numbers) -> Result<Grid, LayoutError>
     requires limits { IsInLimits numbers.now }
     ensures map { IfOk result (λ map. IsMapOf map numbers.now.subpics (width numbers.now) (height numbers.now)) }

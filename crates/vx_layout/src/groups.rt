@@ -12,10 +12,14 @@ use crate::numbers::{LayoutError, Numbers, SLICE_SPLIT_FAULT};
 use crate::rect::{Rect, RectList};
 use std::alloc::{AllocError, Global};
 
-/// Returns the slices of each subpicture, in the order of the slice list, or SLICE_SPLIT_FAULT: a slice lies in no
-/// subpicture.
+/// Returns the slices of each subpicture, in the order of the slice list.
 ///
 /// `owners` gives the number of the subpicture of each CTU, from 1.
+///
+/// # Errors
+///
+/// - SLICE_SPLIT_FAULT if a slice lies in no subpicture.
+/// - `Memory` if memory runs out.
 pub fn group_slices(
     alloc: Global,
     numbers: &Numbers,

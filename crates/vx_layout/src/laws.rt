@@ -1,4 +1,4 @@
-//! Laws on layouts and on tile bounds. A law is a function without a body whose contract states it.
+//! Laws on layouts and on tile bounds. A law is a function that does nothing; its contract states it.
 ghost use Rattle.std.specs.Prelude.{◌≡◌, ℕ, ◌-◌, ◌<◌, ◌≤◌, ◌↔◌, true, List, ◌∷◌, All, length, sum};
 ghost use Rattle.vx_layout.specs.Bounds.{Rises, last, sizes_between, sums_after};
 ghost use Rattle.vx_layout.specs.Faults.{LiesIn};
@@ -47,8 +47,8 @@ pub fn region_is_layout()
     ensures { (n : Numbers) (k : ℕ) → HasLayout n → k < length n.subpics → HasLayout (region_of n k) }
 {}
 
-/// If a region is taken of a region, then the result is a region of the whole: bounds that are cut twice are cut once, and
-/// the only subpicture of a region is the region.
+/// A region of a region is a region of the whole: bounds that are cut twice are cut once, and the only subpicture of a
+/// region is the region.
 pub fn regions_nest()
     ensures bounds { CutsNest }
     ensures region { (n : Numbers) (k : ℕ) → region_of (region_of n k) 0 ≡ region_of n k }
@@ -61,8 +61,8 @@ pub fn region_keeps_slices()
     ensures ctus { RegionKeepsCtus }
 {}
 
-/// If a layout's slices have CTUs, are whole tiles or whole rows of one tile, and those in one tile are next to each other
-/// in the list, then the same holds for a region's slices and the region's tiles.
+/// If a layout's slices can be listed tile by tile, then so can a region's. They have CTUs, are whole tiles or whole rows
+/// of one tile, and those in one tile are next to each other in the list.
 pub fn region_is_listable()
     ensures { RegionIsListable }
 {}

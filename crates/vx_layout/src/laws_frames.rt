@@ -1,4 +1,4 @@
-//! Laws on a frame that is composed of several pictures. A law is a function without a body whose contract states it.
+//! Laws on a frame that is composed of several pictures. A law is a function that does nothing; its contract states it.
 ghost use Rattle.std.specs.Prelude.{◌≡◌};
 ghost use Rattle.vx_layout.specs.laws.Frames.{CutBoundsAreOwn, FillsByIndex, FirstBegins, FrameAloneIsLayout, FrameHasPictures, FrameIsLayout, FrameIsListable, FrameSlicesAreInOrder, FrameSlicesCoverOnce, FrameSlicesFit, FrameSlicesGrow, FrameSlicesOfRegion, FrameSlicesOfRegionCounted, FrameSlicesStandInOrder, LastEnds, MovingUndoesCounting, PlacedByIndex, PlacedFills, RunsFillTiles, SplitByBorders};
 ghost use Rattle.vx_layout.specs.Regions.{counted_from, moved_to};
@@ -11,7 +11,7 @@ pub fn moving_undoes_counting()
     ensures counted { MovingUndoesCounting }
 {}
 
-/// If tiles and a part of the picture are given, then they split one another well if and only if the part's left and right
+/// Tiles and a part of the picture split one another well if and only if the part's borders allow it. Its left and right
 /// borders are bounds, and its upper and lower borders are too, or no bound at all passes through it.
 pub fn split_by_borders()
     ensures { SplitByBorders }
@@ -53,8 +53,8 @@ pub fn frame_slices_stand_in_order()
     ensures same { FrameSlicesAreInOrder }
 {}
 
-/// If regions cover a frame and pictures fill them, then the frame's slices in a region are the slices of the picture
-/// there, moved to the region's corner; counted from the corner they are the picture's own.
+/// If regions cover a frame and pictures fill them, then the frame's slices in a region are those of the picture there,
+/// moved to the region's corner. Counted from the corner they are the picture's own.
 pub fn frame_slices_of_region()
     ensures slices { FrameSlicesOfRegion }
     ensures counted { FrameSlicesOfRegionCounted }
@@ -82,14 +82,13 @@ pub fn frame_alone_is_layout()
     ensures { FrameAloneIsLayout }
 {}
 
-/// If regions cover a frame once, in order, their borders split the tiles well, and each begins at a tile row or is
-/// directly below the one before it, then the regions of one tile are next to each other in the list.
+/// If regions cover a frame once, in order, then the regions of one tile are next to each other in the list. Their borders
+/// must split the tiles well, and each must begin at a tile row or be directly below the one before it.
 pub fn runs_fill_tiles()
     ensures { RunsFillTiles }
 {}
 
-/// If each picture's slices have CTUs, are whole tiles or whole rows of one tile, and those in one tile are next to each
-/// other, then so it is with the frame's slices and the frame's tiles, provided that the regions of one tile are next to
+/// If each picture's slices can be listed tile by tile, then so can the frame's. The regions of one tile must be next to
 /// each other.
 pub fn frame_is_listable()
     ensures { FrameIsListable }

@@ -46,7 +46,7 @@ impl Layout {
     ///
     /// # Errors
     ///
-    /// - `Fault` with the lowest fault, exactly if there is one.
+    /// - `Fault` with the lowest fault, from 3 to 7, exactly if there is one.
     /// - `Memory` if memory runs out.
     pub fn new(alloc: Global, numbers: Numbers) -> Result<Layout, LayoutError>
         requires { IsInLimits numbers }
@@ -91,8 +91,9 @@ impl Layout {
         count_entries(&self.numbers.columns, &self.numbers.rows, slice, sync)
     }
 
-    /// Returns a subpicture as a layout of its own: its tile bounds and slices, counted from its corner, and one
-    /// subpicture.
+    /// Returns a subpicture as a layout of its own, with one subpicture.
+    ///
+    /// Its tile bounds and slices are counted from its corner.
     ///
     /// # Errors
     ///

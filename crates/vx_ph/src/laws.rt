@@ -1,4 +1,4 @@
-//! Laws of picture headers. A law is a function without a body whose contract states it.
+//! Laws of picture headers. A law is a function that does nothing; its contract states it.
 ghost use Rattle.vx_ph.specs.Depends.{KeptDepend, AllDepend, KeepsKept, ShowsAll, FieldsAreCodedOnce, HeaderReadAgain, HeaderRewrites};
 ghost use Rattle.vx_ph.specs.laws.Enabled.{NoLmcs, NoScaling, NoChromaScaling, NoFilter};
 ghost use Rattle.vx_ph.specs.Filter.{FilterGoesAgain, FilterNamesOnce, HeaderHasFilter};
@@ -13,8 +13,8 @@ pub fn sets_agree()
     ensures { SetsAgree }
 {}
 
-/// If a field of a header is kept, then it depends only on kept fields of the sets and of the header, for any structures of the
-/// SPS; all its fields depend in addition on two fields of the PPS.
+/// The kept fields of a header depend only on kept fields of the sets and of the header, for any structures of the SPS. All
+/// its fields depend in addition on two fields of the PPS.
 pub fn header_depends()
     ensures kept { KeptDepend }
     ensures all { AllDepend }
@@ -25,8 +25,7 @@ pub fn fields_are_coded_once()
     ensures { FieldsAreCodedOnce }
 {}
 
-/// If a field of a header is kept, then it is one of the kept fields, and the other way round; and all fields that it has are
-/// named.
+/// A header keeps exactly the kept fields, and all fields that it has are named.
 pub fn header_keeps()
     ensures kept { KeepsKept }
     ensures all { ShowsAll }
@@ -65,7 +64,7 @@ pub fn filter_goes_again()
     ensures header { HeaderHasFilter }
 {}
 
-/// If a filter is given, then it names at most one set for chroma, one for Cb and one for Cr.
+/// A filter names at most one set for chroma, one for Cb and one for Cr.
 pub fn filter_names_once()
     ensures { FilterNamesOnce }
 {}

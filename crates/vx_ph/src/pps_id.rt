@@ -33,7 +33,7 @@ pub fn read_pps_id(bits: &mut BitReader<'_>) -> Result<u8, Refusal>
     Ok(scope.latest(ph_pic_parameter_set_id) as u8)
 }
 
-/// Reads the fields of the picture header that comes next, up to the id of the PPS, and appends their items.
+/// Reads the fields of the next picture header, up to the id of the PPS, and appends their items.
 ///
 /// # Errors
 ///

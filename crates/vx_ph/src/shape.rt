@@ -9,7 +9,7 @@ pub struct LmcsShape {
     pub scales_chroma: bool,
 }
 
-/// A description of the picture header that is sent for a frame of several sources: what isn't copied from one of them.
+/// A description of the picture header that is sent for a frame of several sources, as far as it isn't copied from one.
 #[derive(Clone, Copy)]
 pub struct PhShape {
     /// The id of its PPS.

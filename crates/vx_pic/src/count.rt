@@ -6,8 +6,8 @@ ghost use Rattle.vx_pic.specs.Counted.{previous_of, checked};
 use vx_bits::Refusal;
 use vx_bits::rules::POC_RANGE;
 
-/// prevTid0Pic as the counts of later pictures use it: the last picture with TemporalId 0 and ph_non_ref_pic_flag 0 that is
-/// neither RADL nor RASL (H.266 8.3.1). Both numbers are 0 if there is none.
+/// prevTid0Pic as the counts of later pictures use it (H.266 8.3.1). It is the last picture with TemporalId 0 and
+/// ph_non_ref_pic_flag 0 that is neither RADL nor RASL. Both numbers are 0 if there is none.
 #[derive(Clone, Copy, Debug, Default, PartialEq, Eq)]
 pub struct PrevTid0 {
     /// Its ph_pic_order_cnt_lsb.

@@ -1,6 +1,6 @@
 //! The kind of a picture among the pictures of its stream.
 
-/// The kind of a picture among the pictures of its stream: its type, its TemporalId and its place in output order.
+/// The kind of a picture among the pictures of its stream: its type, its TemporalId and its order count.
 #[derive(Clone, Copy, Debug, PartialEq, Eq)]
 pub struct Kind {
     /// nal_unit_type of its slices.

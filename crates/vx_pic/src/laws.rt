@@ -1,4 +1,4 @@
-//! Laws of the pictures of a stream. A law is a function without a body whose contract states it. They hold whatever sets and
+//! Laws of the pictures of a stream. A law is a function that does nothing; its contract states it. They hold whatever sets and
 //! headers are read as.
 ghost use Rattle.vx_pic.specs.Alike.{AlikeIsNext};
 ghost use Rattle.vx_pic.specs.laws.Edited.{EditsArePlanned};
@@ -18,7 +18,7 @@ pub fn pictures_stay()
     ensures { PicturesStay }
 {}
 
-/// If bytes have pictures and an ending, then they have no others: the bytes determine where and why they are refused.
+/// The bytes determine the pictures, and where and why they are refused.
 pub fn pictures_are_unique()
     ensures { PicturesAreUnique }
 {}
@@ -33,22 +33,22 @@ pub fn seen_pictures_stay()
     ensures { SeenPicturesStay }
 {}
 
-/// If a set is in force, then it is that of the last unit with its id.
+/// The sets in force are those of the last units with their ids.
 pub fn stored_by_places()
     ensures { StoredByPlaces }
 {}
 
-/// If messages are gathered, then they are those of the units since the last slice, in the order of the units.
+/// Messages are gathered from the units since the last slice, in the order of the units.
 pub fn gathered_by_places()
     ensures { GatheredByPlaces }
 {}
 
-/// If a picture was begun last, then it has the slice with which it began, and all slices after it, in the order of the units.
+/// The picture that was begun last has the slice with which it began, and all slices after it, in the order of the units.
 pub fn current_by_places()
     ensures { CurrentByPlaces }
 {}
 
-/// If prevTid0Pic is some picture, then it is the last one that can be it (H.266 8.3.1).
+/// prevTid0Pic is the last picture that can be it (H.266 8.3.1).
 pub fn previous_by_places()
     ensures { PreviousByPlaces }
 {}
@@ -64,12 +64,12 @@ pub fn plans_read_again()
     ensures { PlansReadAgain }
 {}
 
-/// If a written picture needs a set, which is sent unless it is resident, then the set is in force for its header,
+/// If a written picture needs a set, then the set is in force for its header. It is sent unless it is resident.
 pub fn needed_is_stored()
     ensures { NeededIsStored }
 {}
 
-/// and if it is an adaptation parameter set, then it is one of those of the picture that is read again.
+/// If a written picture needs an adaptation parameter set, then it is one of those of the picture that is read again.
 pub fn needed_is_body()
     ensures { NeededIsBody }
 {}

@@ -1,4 +1,4 @@
-//! Laws of pictures that are joined after ends of sequence. A law is a function without a body whose contract states it.
+//! Laws of pictures that are joined after ends of sequence. A law is a function that does nothing; its contract states it.
 ghost use Rattle.vx_pic.specs.Joined.{BeginsWhereFirst, JoinedAreFinished, PlayedAreFinished};
 
 /// If pictures begin with the start of a coded layer video sequence and come after an end of sequence, then they can follow any

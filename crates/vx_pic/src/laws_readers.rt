@@ -1,4 +1,4 @@
-//! Laws of the readers of H.266. A law is a function without a body whose contract states it.
+//! Laws of the readers of H.266. A law is a function that does nothing; its contract states it.
 ghost use Rattle.vx_pic.specs.H266Laws.{HaveOneAnswer, ThereAreReaders};
 ghost use Rattle.vx_pic.specs.laws.AsRead.{ReadersAreAsProgramsRead};
 

@@ -1,4 +1,4 @@
-//! Laws of the pictures up to a TemporalId (H.266 C.6). A law is a function without a body whose contract states it.
+//! Laws of the pictures up to a TemporalId (H.266 C.6). A law is a function that does nothing; its contract states it.
 ghost use Rattle.vx_pic.specs.Sublayers.{AllAreKept, KeptAreFinished};
 
 /// If no IRAP or GDR picture is left out, then each picture that is kept has what is required of a picture that is written, after

@@ -1,11 +1,11 @@
-//! Laws of the sets and slices of pictures. A law is a function without a body whose contract states it.
+//! Laws of the sets and slices of pictures. A law is a function that does nothing; its contract states it.
 ghost use Rattle.vx_pic.specs.Inputs.{InputsAreShown};
 ghost use Rattle.vx_pic.specs.Whole.{PicturesHaveSets, SlicesAreShown, SubpicturesAreWhole, SubpicturesHaveSlices};
 
 use vx_pps::sets_tell_partitions;
 use vx_sh::{addresses_are_below, slice_scopes_agree};
 
-/// If sets are in force for a picture, then they were read.
+/// The sets in force for a picture were read.
 pub fn pictures_have_sets()
     ensures { PicturesHaveSets }
 {}
@@ -22,7 +22,7 @@ pub fn subpictures_have_slices()
     slice_scopes_agree();
 }
 
-/// If a picture of a stream is given, then its decoding inputs are those of its model.
+/// The decoding inputs of a picture of a stream are those of its model.
 pub fn inputs_are_shown()
     ensures { InputsAreShown }
 {}

@@ -36,8 +36,7 @@ use vx_table::{natural, quotient};
 
 /// The sets have different CTU sizes.
 pub const CTU_SIZE_FAULT: u8 = 1;
-/// The ids of subpictures are where they must not be, or are missing where they must be, or the sets disagree on them, or two of
-/// them are the same.
+/// The ids of subpictures are misplaced or missing, the sets disagree on them, or two of them are the same.
 pub const IDS_FAULT: u8 = 2;
 
 // ---- ids

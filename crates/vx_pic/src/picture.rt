@@ -208,7 +208,7 @@ impl<'a> Picture<'a> {
         }
     }
 
-    /// Returns the body of an adaptation parameter set, by its type and id, as it was stored before the first slice.
+    /// Returns the body of the adaptation parameter set with a type and id, as it was stored before the first slice.
     pub fn body(&self, kind: u8, id: u8) -> Option<&'a [u8]>
         ensures body { option_copied result ≡ option_map (λ aps. aps.body) (aps_at self.now.bodies kind id) }
         ensures some { IfSome result (λ body. 0 < length body.now) }

@@ -1,4 +1,4 @@
-//! Laws of slices that a slice list can describe. A law is a function without a body whose contract states it.
+//! Laws of slices that a slice list can describe. A law is a function that does nothing; its contract states it.
 ghost use Rattle.vx_pps.specs.laws.Lists.{ListsFallIntoGroups, FewFallIntoGroups, LayoutsAreLists, ListGivesSlices, SlicesAreReadBack, FewAreReadBack, BoundsAreReadBack};
 
 /// If slices cover a picture in order, and a slice list can describe them, then they fall into groups that can be listed with

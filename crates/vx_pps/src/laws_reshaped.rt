@@ -1,4 +1,4 @@
-//! Laws of rewritten sets. A law is a function without a body whose contract states it.
+//! Laws of rewritten sets. A law is a function that does nothing; its contract states it.
 ghost use Rattle.vx_pps.specs.Reshaped.{FrameKeeps, RegionKeeps, ReshapedHasItsTiles, ReshapedTells};
 
 /// If a rewritten set is partitioned, then its tile columns, tile rows and slices are exactly the shape's (H.266 6.5.1).
@@ -6,8 +6,8 @@ pub fn reshaped_has_its_tiles()
     ensures { ReshapedHasItsTiles }
 {}
 
-/// If a set is rewritten, then it has the ids, the size, the partitioning, the CTU size, and the flags for loop filters
-/// across tiles and slices of its shape, and the QP if it is for a frame.
+/// If a set is rewritten, then it has what its shape says: ids, size, partitioning, CTU size, the flags for loop filters
+/// across tiles and slices, and a frame's QP.
 pub fn reshaped_tells()
     ensures { ReshapedTells }
 {}

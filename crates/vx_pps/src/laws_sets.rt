@@ -1,4 +1,4 @@
-//! Laws of picture parameter sets. A law is a function without a body whose contract states it.
+//! Laws of picture parameter sets. A law is a function that does nothing; its contract states it.
 ghost use Rattle.vx_pps.specs.laws.Sets.{WrittenIsRead, NoProperPrefix, SpellingIsShort, StarsTellKept, KeptDependsOnKept, KeptAndOthersTell, KeptTellsNumbers, TilesAreInLimits, SetsTellPartitions, ReadSlicesAreListable};
 
 /// If a set is written, then its bytes are read as the set.
@@ -11,13 +11,13 @@ pub fn no_proper_prefix()
     ensures { NoProperPrefix }
 {}
 
-/// If items are a set, then its spelling has at most 2^16 bytes, by its limits on tiles and slices and the ranges of the
-/// fields that count others.
+/// The spelling of a set has at most 2^16 bytes, by its limits on tiles and slices and the ranges of the fields that count
+/// others.
 pub fn spelling_is_short()
     ensures { SpellingIsShort }
 {}
 
-/// If a field is kept, then it has no star, and depends only on kept fields and on pps_no_pic_partition_flag.
+/// The kept fields of a set are those without a star, and depend only on kept fields and on pps_no_pic_partition_flag.
 pub fn kept_depends_on_kept()
     ensures depends { KeptDependsOnKept }
     ensures stars { StarsTellKept }
@@ -45,8 +45,8 @@ pub fn sets_tell_partitions()
     ensures { SetsTellPartitions }
 {}
 
-/// If the slices of a slice list cover the picture once, then they are whole tiles or whole rows of one tile, and those in
-/// one tile are next to each other: they can be listed again (H.266 6.3.1, 7.3.2.5).
+/// If the slices of a slice list cover the picture once, then they can be listed again (H.266 6.3.1, 7.3.2.5). They are
+/// whole tiles or whole rows of one tile, and those in one tile are next to each other.
 pub fn read_slices_are_listable()
     ensures { ReadSlicesAreListable }
 {}

@@ -3,8 +3,7 @@
 use crate::tiles::Tiles;
 use vx_layout::RectList;
 
-/// A description of the picture parameter set that is sent for a region of its source's pictures, or for a frame of several
-/// sources.
+/// A description of the picture parameter set that is sent for a region of a source, or for a frame of several sources.
 #[derive(Drop)]
 pub struct PpsShape {
     /// Its id.

@@ -54,7 +54,7 @@ impl Tiles {
         tile / self.across()
     }
 
-    /// Returns `wide` tiles across and `high` down from a tile on, as a rectangle of CTUs; a bound past the last one counts
+    /// Returns `wide` tiles across and `high` down from a tile on, as a rectangle of CTUs. A bound past the last one counts
     /// as 0.
     pub fn block(&self, tile: u32, wide: u32, high: u32) -> Rect
         requires grid { IsGrid self.now }

@@ -1,4 +1,4 @@
-//! Laws of the structures. A law is a function without a body whose contract states it.
+//! Laws of the structures. A law is a function that does nothing; its contract states it.
 ghost use Rattle.vx_ptl.specs.Spelling.{StructuresAreSpelled, RunsAreSpelled, WritesWhatWasRead};
 
 /// If values follow a structure, then their items are written as the structure's spelling of them.

@@ -1,4 +1,4 @@
-//! Laws of what the structures depend on. A law is a function without a body whose contract states it.
+//! Laws of what the structures depend on. A law is a function that does nothing; its contract states it.
 ghost use Rattle.vx_ptl.specs.laws.Depends.{PtlDepends, DpbDepends, TimingDepends, SublayerTimingDepends, TimingIfPresentDepends, FieldsAreCodedOnce};
 
 /// Profile, tier and level depend only on the highest sublayer.

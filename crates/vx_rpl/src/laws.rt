@@ -1,4 +1,4 @@
-//! Laws of lists, structures and weights. A law is a function without a body whose contract states it.
+//! Laws of lists, structures and weights. A law is a function that does nothing; its contract states it.
 ghost use Rattle.vx_rpl.specs.Depends.{ListsDepend, StructureDepends, WeightsDepend, FieldsAreCodedOnce, ListsCarry, ListsShow, ListsKeep, ListsLeave, ListsFollowItems, TablesFollowItems};
 ghost use Rattle.vx_rpl.specs.laws.Lengths.{EntriesAreCounted};
 ghost use Rattle.vx_rpl.specs.Written.{StructuresWrittenAlike};

@@ -38,7 +38,7 @@ impl RplNumbers {
         scope
     }
 
-    /// Returns the scope of structure `index` of the SPS's `count`, or of one in a header if the two are equal.
+    /// Returns the scope of structure `index` of the SPS's `count`, or if they are equal of one in a header.
     #[tactic(auto, unfolding(crate::specs::Numbers::structure_scope))]
     pub fn structure_scope(&self, index: u32, count: u32) -> Scope
         requires { (4 ≤ self.now.lsb_bits) × (self.now.lsb_bits ≤ 16) }

@@ -1,4 +1,4 @@
-//! Laws of SEI RBSPs. A law is a function without a body whose contract states it.
+//! Laws of SEI RBSPs. A law is a function that does nothing; its contract states it.
 ghost use Rattle.vx_sei.specs.laws.Messages.{SeiIsUnique, WrittenIsRead, SeiEndsIn80, CarriedIsShorter};
 
 /// If bytes are the SEI RBSP of messages, then they are that of no other messages.
@@ -11,7 +11,7 @@ pub fn written_is_read()
     ensures { WrittenIsRead }
 {}
 
-/// If bytes are an SEI RBSP, then the last byte is 80, so they never end in 00 (H.266 7.4.2.1).
+/// The last byte of an SEI RBSP is 80, so it never ends in 00 (H.266 7.4.2.1).
 pub fn sei_ends_in_80()
     ensures { SeiEndsIn80 }
 {}

@@ -1,4 +1,4 @@
-//! Laws of slice headers. A law is a function without a body whose contract states it.
+//! Laws of slice headers. A law is a function that does nothing; its contract states it.
 ghost use Rattle.vx_sh.specs.laws.Addresses.{AddressesAreBelow};
 ghost use Rattle.vx_sh.specs.Depends.{KeptDepend, AllDepend, AllAreShown, KeptAreShown};
 ghost use Rattle.vx_sh.specs.laws.Again.{SlicesReadAgain, SlicesRewrite};
@@ -10,14 +10,14 @@ ghost use Rattle.vx_sh.specs.Reshaped.{ReshapedIsReadAgain, SlicesAgreeOnKept};
 ghost use Rattle.vx_sh.specs.laws.Sizes.{NumbersAreBounded, SpellingIsShort};
 ghost use Rattle.vx_sh.specs.Value.{FirstBitIsInside, NoProperPrefix, NumbersAreTold, ReadCanBeWritten, SpellingBegins, SpellingIsRead};
 
-/// If a field of a slice header after the id of its subpicture is kept, then it depends only on kept fields; the other fields
-/// depend in addition on a few with a star.
+/// The kept fields of a slice header after the id of its subpicture depend only on kept fields. The other fields depend in
+/// addition on a few with a star.
 pub fn slices_depend()
     ensures kept { KeptDepend }
     ensures all { AllDepend }
 {}
 
-/// If a slice header has a field, then it is one of the named ones, and if it is kept, one of the kept ones.
+/// A slice header has only the named fields, and keeps exactly the kept ones.
 pub fn slices_keep()
     ensures all { AllAreShown }
     ensures kept { KeptAreShown }

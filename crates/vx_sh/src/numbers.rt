@@ -69,7 +69,7 @@ pub(crate) fn slice_scope(
     scope
 }
 
-/// Reads the slice header at the start of an RBSP, `slice_header()` (clause 7.3.7), and returns it and its number of bytes.
+/// Reads the slice header at the start of an RBSP, `slice_header()` (clause 7.3.7). Returns it and its number of bytes.
 ///
 /// A picture header inside is passed over. The last byte of the header is never 00.
 ///

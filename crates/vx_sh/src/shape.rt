@@ -1,7 +1,8 @@
 //! The shape of a rewritten slice header.
 use vx_bits::Fields;
 
-/// A description of the slice header that is sent for a frame of several sources: what isn't copied from its source.
+/// A description of the slice header that is sent for a frame of several sources, as far as it isn't copied from its
+/// source.
 #[derive(Clone, Copy)]
 pub struct ShShape<'a> {
     /// The id of its subpicture.

@@ -1,4 +1,4 @@
-//! Laws of sequence parameter sets. A law is a function without a body whose contract states it.
+//! Laws of sequence parameter sets. A law is a function that does nothing; its contract states it.
 ghost use Rattle.vx_sps.specs.Set.{WrittenIsRead, NoProperPrefix, SpellingIsShort};
 ghost use Rattle.vx_sps.specs.Depends.{KeptDependsOnKept, StarsTellKept, KeptAreSifted, KeptAndOthersTell};
 
@@ -12,18 +12,18 @@ pub fn no_proper_prefix()
     ensures { NoProperPrefix }
 {}
 
-/// If items are a set, then its spelling has at most 2^17 bytes, by the ranges of the fields that count others.
+/// The spelling of a set has at most 2^17 bytes, by the ranges of the fields that count others.
 pub fn spelling_is_short()
     ensures { SpellingIsShort }
 {}
 
-/// If a field is kept, then it has no star and depends only on kept fields.
+/// The kept fields of a set are those without a star, and depend only on kept fields.
 pub fn kept_depends_on_kept()
     ensures depends { KeptDependsOnKept }
     ensures stars { StarsTellKept }
 {}
 
-/// If a set is given, then the items of kept fields are what [`crate::keep_sps`] selects: they include no absent field.
+/// The items of kept fields are what [`crate::keep_sps`] selects: they include no absent field.
 pub fn kept_are_sifted()
     ensures { KeptAreSifted }
 {}

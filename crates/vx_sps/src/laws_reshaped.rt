@@ -1,4 +1,4 @@
-//! Laws of rewritten sets. A law is a function without a body whose contract states it.
+//! Laws of rewritten sets. A law is a function that does nothing; its contract states it.
 ghost use Rattle.vx_sps.specs.laws.Reread.{ReshapedSays, ReshapedSignals, ReshapedKeeps};
 
 /// If a set is rewritten, then it has the width, height, rectangles, flags and ids of its shape. So has what is read of it

@@ -266,12 +266,11 @@ fn comes_always(presence: Presence) -> bool
     }
 }
 
-/// Returns whether the shown fields and names of a table depend only on the given numbers of the scope, by a test of the
-/// rows.
+/// Tests whether the shown fields and names of a table depend only on the given numbers of the scope.
 ///
-/// The test allows these numbers in a width, a range, or a shown name's formula: a given number, or one that the table gave
-/// a shown field or name before it in the same block or around it. A block whose presence uses other numbers must hide
-/// everything in it.
+/// It is a test of the rows: `true` means that they do, `false` only that the rows don't pass. A width, a range, or a shown
+/// name's formula may use a given number, or one that the table gave a shown field or name before it in the same block or
+/// around it. A block whose presence uses other numbers must hide everything in it.
 pub fn depends_only_on(table: &[Row], given: &[u16], shown: &[u16]) -> bool
     ensures test { result ≡ test.depends_only_on given.now shown.now table.now }
     ensures depends { IsTrue result → DependsOnlyOn given.now shown.now (form_of table.now) }
@@ -285,7 +284,7 @@ pub fn depends_only_on(table: &[Row], given: &[u16], shown: &[u16]) -> bool
     )
 }
 
-/// Returns whether the shown fields and names of a structure's parts depend only on the given numbers of the scope.
+/// Tests whether the shown fields and names of a structure's parts depend only on the given numbers of the scope.
 ///
 /// The test is that of [`depends_only_on`]. A number that a part sets outside its blocks is known after it if the part is
 /// always present.

@@ -1,4 +1,4 @@
-//! Laws of reading the same bits again. A law is a function without a body whose contract states it.
+//! Laws of reading the same bits again. A law is a function that does nothing; its contract states it.
 ghost use Rattle.vx_table.specs.laws.Again.{FollowsAgain, ReadsAgain, StopsAgain, AnswersAgain, TablesShow, SectionsShow};
 
 /// If two forms are alike and all their fields are shown, then values that follow the one follow the other. The items and

@@ -1,4 +1,4 @@
-//! Laws of what fields depend on. A law is a function without a body whose contract states it.
+//! Laws of what fields depend on. A law is a function that does nothing; its contract states it.
 ghost use Rattle.vx_table.specs.laws.Chains.{TablesCarry, SectionsCarry, SetsCarry, StepsCarry, CarriesTogether, CarriesPresent, ChainsDepend};
 ghost use Rattle.vx_table.specs.Shown.{CellsFollowItems, CellsFollowKept, KeptTellsKept, ScopesFollowItems, AlikeTogether};
 

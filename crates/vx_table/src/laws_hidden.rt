@@ -1,4 +1,4 @@
-//! Laws of fields that numbers hide. A law is a function without a body whose contract states it.
+//! Laws of fields that numbers hide. A law is a function that does nothing; its contract states it.
 ghost use Rattle.vx_table.specs.laws.Absence.{TablesHide, SectionsHide, HiddenTogether, HiddenPresent, SetsHide, LeftHide, HiddenHaveNoItems};
 
 /// If some numbers are 0, then a table has no field under conditions which are then 0, and neither has a structure.

@@ -1,4 +1,4 @@
-//! Laws of the numbers that items give to fields. A law is a function without a body whose contract states it.
+//! Laws of the numbers that items give to fields. A law is a function that does nothing; its contract states it.
 ghost use Rattle.vx_table.specs.Loaded.{NumberOfLast, NumberOfNone, NumberOfShown, LoadsTogether, TablesLoad, SectionsLoad, ItemsBelow, NumberBelow, TablesStayBelow, SectionsStayBelow};
 
 /// If a field has items, then its number is that of its last item, and otherwise 0; the items of any set that has the field

@@ -1,4 +1,4 @@
-//! Laws of rewriting. A law is a function without a body whose contract states it.
+//! Laws of rewriting. A law is a function that does nothing; its contract states it.
 ghost use Rattle.vx_table.specs.Rewrites.{WhatGoesIsRewritten, CopiedRewrites, ReplacedRewrites, MixedRewrites, GivenGoes, RewritesTogether, AbsentRewrites, PresentRewrites, NothingRewrites, ValuesTake, TakesAgain, TakesTogether, TurnsTake, RewrittenIsRead, TablesLeave, SectionsLeave, LeavesTogether, LeavesPresent, LeavesAgree, SectionsTogether};
 ghost use Rattle.vx_table.specs.Sent.{SentAsRewritten, SendsRewritten};
 ghost use Rattle.vx_table.specs.Rewritten.{RewritesOneWay, RewrittenKeeps, SectionsFillNone, MakesRewritten, MadeIsRewritten};
@@ -57,7 +57,7 @@ pub fn parts_leave()
     ensures agree { LeavesAgree }
 {}
 
-/// If sections are cut anywhere, then they are one structure after another.
+/// Sections are one structure after another, wherever they are cut.
 pub fn sections_together()
     ensures { SectionsTogether }
 {}
@@ -68,7 +68,7 @@ pub fn rewritten_keeps()
     ensures test { SectionsFillNone }
 {}
 
-/// If a sender is used, then it does what a rewriter followed by a writer does; so it writes the rewritten structure.
+/// A sender does what a rewriter followed by a writer does, so it writes the rewritten structure.
 pub fn sent_as_rewritten()
     ensures both { SentAsRewritten }
     ensures writes { SendsRewritten }

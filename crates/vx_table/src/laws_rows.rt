@@ -1,7 +1,7 @@
-//! Laws of what a table means, row by row. A law is a function without a body whose contract states it.
+//! Laws of what a table means, row by row. A law is a function that does nothing; its contract states it.
 ghost use Rattle.vx_table.specs.laws.Rows.{EndsWithoutRows, BeginsWithField, BeginsWithBlock, BeginsWithName};
 
-/// If a table has rows, then it is its first row and then the rest: a field, a block with the rows after it, or a name.
+/// A table is its first row and then the rest: a field, a block with the rows after it, or a name.
 pub fn first_row_first()
     ensures none { EndsWithoutRows }
     ensures field { BeginsWithField }

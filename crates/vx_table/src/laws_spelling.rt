@@ -1,4 +1,4 @@
-//! Laws of the bits of all tables. A law is a function without a body whose contract states it.
+//! Laws of the bits of all tables. A law is a function that does nothing; its contract states it.
 ghost use Rattle.vx_table.specs.laws.Spelling.{ReadsOneWay, AnswersOneWay, AnswersAlways, SpellsBothWays, ReachesBothWays, ReadsBack, SpellsApart, ItemsApart, FollowsTogether, ItemsTogether, BitsTogether, SpellsTogether};
 ghost use Rattle.vx_table.specs.laws.Bounds.{LieInRange, PartsLieInRange};
 ghost use Rattle.vx_table.specs.laws.Trailing.{ClosesWithoutTrailing, ClosesAtTheEnd, PartsCloseWithoutTrailing, PartsCloseAtTheEnd, TablesStop, SectionsStop, StopsTogether, StopsAtBoundary, StopsInNoZero};
@@ -38,7 +38,7 @@ pub fn what_may_follow()
     ensures parts_nothing { PartsCloseAtTheEnd }
 {}
 
-/// If two spellings of values differ, then neither is a proper prefix of the other.
+/// No spelling of values is a proper prefix of another's.
 pub fn no_proper_prefix()
     ensures { SpellsApart }
 {}

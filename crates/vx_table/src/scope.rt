@@ -96,7 +96,7 @@ impl Scope {
         self.set(item.field, natural(item.value));
     }
 
-    /// Sets the numbers of all fields from `from` on to those that `items` give them, and 0 for fields without an item.
+    /// Sets the numbers of all fields from `from` on to those that `items` give, or to 0.
     #[tactic(auto, using(crate::proofs::LoadedFrom::from_first, crate::proofs::LoadedFrom::from_turn, crate::proofs::LoadedFrom::from_all))]
     pub fn load_from(&mut self, items: &Fields, from: u16)
         requires { from ≤ 1024 }

@@ -23,11 +23,11 @@ pub trait FieldSet {
         ensures { result ≡ sets.has names field };
 }
 
-/// The source of a structure that is sent: new items for the fields in a set, and all items of another value.
+/// The source of a structure that is sent. It has new items for the fields in a set, and all items of another value.
 ///
 /// Sending writes the structure that a [`crate::Rewriter`] of the same items makes (law
-/// [`sent_as_rewritten`](crate::sent_as_rewritten)).
-/// *Model:* that of a [`crate::Rewriter`] which has the source's items of the other fields.
+/// [`sent_as_rewritten`](crate::sent_as_rewritten)). *Model:* that of a [`crate::Rewriter`] which has the source's items of
+/// the other fields.
 #[derive(Drop)]
 pub struct Sender<'a, N: FieldSet> {
     set: PhantomData<N>,
@@ -57,7 +57,7 @@ fn pass_named<N: FieldSet>(items: &mut Unwritten<'_>)
 }
 
 impl<'a, N: FieldSet> Sender<'a, N> {
-    /// Returns a sender of the new items `stated`, for the fields in the set, and of the other fields' items in `source`.
+    /// Returns a sender of the new items `stated`, for the fields in the set, and of `source`'s items of the others.
     pub fn new(stated: Unwritten<'a>, source: Unwritten<'a>) -> Sender<'a, N>
         ensures { result ≡ record { names = N.names; shown = stated.entry; others = other_items N.names source.entry } }
     {

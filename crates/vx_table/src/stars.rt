@@ -83,7 +83,9 @@ fn parts_stars_tell(given: &[u16], shown: &[u16], parts: &[Part<'_>]) -> bool
     true
 }
 
-/// Returns whether the fields of `table` without a star are exactly the shown ones. A given field counts as shown.
+/// Tests whether the fields of `table` without a star are exactly the shown ones. A given field counts as shown.
+///
+/// It is a test of the rows: `true` means that they are.
 pub fn keeps_only(table: &[Row], given: &[u16], shown: &[u16]) -> bool
     ensures test { result ≡ stars.stars_tell (given.now ++ shown.now) table.now }
     ensures keeps { IsTrue result → KeepsOnly given.now shown.now (form_of table.now) }
@@ -91,7 +93,7 @@ pub fn keeps_only(table: &[Row], given: &[u16], shown: &[u16]) -> bool
     stars_tell(given, shown, table)
 }
 
-/// Returns whether the fields of a structure's parts without a star are exactly the shown ones, as [`keeps_only`] does.
+/// Tests whether the fields of a structure's parts without a star are exactly the shown ones, as [`keeps_only`] does.
 pub fn parts_keep_only(parts: &[Part<'_>], given: &[u16], shown: &[u16]) -> bool
     ensures test { result ≡ stars.sections_stars_tell (given.now ++ shown.now) (sections_of parts.now) }
     ensures keeps { IsTrue result → KeepsOnly given.now shown.now (sections_form (sections_of parts.now)) }

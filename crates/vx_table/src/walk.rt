@@ -13,7 +13,7 @@ use crate::arithmetic::natural;
 use crate::rows::{Cell, Coding, Formula, Limits, Presence, Row, Term};
 use crate::scope::Scope;
 
-/// A coder of the fields of a structure, one after another: a reader turns bits into items, a writer items into bits.
+/// A coder of the fields of a structure, one after another. A reader turns bits into items, a writer items into bits.
 pub trait Coder<I> {
     ghost use Rattle.std.specs.Prelude.{IfOk};
     ghost use Rattle.vx_table.specs.Values.{IsValueOf};
