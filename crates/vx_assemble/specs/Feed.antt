@@ -1,6 +1,6 @@
--- How callers see a feed: a few observable values, and the relation `HasFed` between it and the bytes that it took from a source,
--- with the places of the units that it took and what these were read as, the latest first. The relation begins with none of them;
--- `Gives` and `ReadsOn` say what it implies. Our own. All that read streams rely on it.
+-- How callers see a feed: a few observable values, and the relation `HasFed`. It relates the feed to the bytes that it took from a
+-- source, the places of the units that it took and what these were read as, the latest first. It begins with none of them; `Gives`
+-- and `ReadsOn` say what it implies. Our own. All that read streams rely on it.
 use Rattle.std.specs.Prelude.{◌≡◌, ℕ, ◌+◌, ◌<◌, ◌≤◌, true, false, List, [], ◌∷◌, ◌++◌, length, take, Option, Some, None, Result, Ok, Err}
 use Rattle.std.specs.Io.KnownBytes.{Consumes, Keeps, IsAtEnd}
 use Rattle.vx_bits.specs.Limits.{unit_limit}
@@ -185,9 +185,9 @@ abbrev pub IsNear : List ℕ → Taken → Type 0
 IsNear g (Nal header place bytes what) = length g < place + bytes + 3 + 65536
 IsNear g End = Unit {0}
 
--- The next unit of a source with these bytes left and this count of faults, before and after it: a piece is read after g, by
--- reads that were needed, and then a unit is taken, or the end, or why there is none. At a failed read no further picture is
--- seen in what was read.
+-- The next unit of a source with these bytes left and this count of faults, before and after it. A piece is read after g, by reads
+-- that were needed, and then a unit is taken, or the end, or why there is none. At a failed read no further picture is seen in what
+-- was read.
 abbrev pub TakesBehind : Readers → List ℕ → List UnitPlace → List Reading → Feeding → ℕ → ℕ → Result Taken FeedFault → Type 0
 TakesBehind R g places before new count count' (Ok taken) =
     (count' ≡ count) × reader.LastWasNeeded g places × IsNear g taken × Gives R g places before new (Ok (Some taken))

@@ -107,7 +107,7 @@ pub record AreFewBodies (sets : List (Option Aps)) : Type 0 where
   pub scaling : count_of SCALING sets ≤ 8
 
 -- It holds a picture of at most 2^25 bytes, messages of at most 65,536 bytes for it and for the next one, and a bounded number of
--- sets: those that are stored, and the bodies that were stored at the picture's first slice.
+-- sets. These are those that are stored, and the bodies that were stored at the picture's first slice.
 pub record IsBounded (h : Held) : Type 0 where
   pub bytes : length h.state.picture.bytes ≤ picture_limit
   pub messages : spelled_length h.state.picture.messages ≤ message_limit

@@ -1,5 +1,5 @@
--- How callers see a feed of bytes in memory: as a feed that was given all bytes within the limit; and by the relation `HasSeen`
--- between it, the bytes, and the pictures that it reached, the latest first. The relation begins with none of these; `Sees` says
+-- How callers see a feed of bytes in memory: as a feed that was given all bytes within the limit, and by the relation `HasSeen`. It
+-- relates the feed to the bytes and to the pictures that it reached, the latest first. It begins with none of these; `Sees` says
 -- what it implies.
 use Rattle.std.specs.Prelude.{◌≡◌, ℕ, ◌^◌, nat_le, cond, List, ◌∷◌, ◌++◌, length, Option, Some, None, Result, Ok, Err}
 use Rattle.vx_annexb.specs.ByteStream.{source_limit, UnitPlace}
@@ -36,9 +36,9 @@ pub record HasSeen (R : Readers) (f : Feeding) (bytes : List ℕ) (ps : List Pic
   pub all : is_all f.reader.splitter ≡ nat_le (length bytes) source_limit
   pub done : pictures before ≡ ps
 
--- It advanced in bytes that have the pictures qs and this ending, the latest picture first, after ps: to their next picture, which
--- it lends; or to their end, which comes after all of them; or it was refused, after all of them, for what ends them. After lack of
--- memory the result is unspecified.
+-- It advanced in bytes that have the pictures qs and this ending, the latest picture first, after ps. It reached their next
+-- picture, which it lends, or their end, which comes after all of them; or it was refused, after all of them, for what ends them.
+-- After lack of memory the result is unspecified.
 abbrev pub Sees : Readers → List ℕ → List Picture → Option Ending → List Picture → Feeding → Result Step AssembleFault → Type 0
 Sees R bytes qs ending ps new (Ok ToPicture) =
     (p : Picture) × HasSeen R new bytes (p ∷ ps) × ((later : List Picture) × (qs ≡ later ++ p ∷ ps)) × (lent_by new.assembler ≡ parts_of p)

@@ -11,8 +11,13 @@ use crate::placed::{FitFault, GREATEST_SIZE, Placed};
 
 /// Returns the width and height of the frame that regions make up, in luma samples.
 ///
-/// CTUs have `ctb` times `ctb` samples. Regions fit if the frame is at most 16,384 wide and high, each corner is on the
-/// grid of CTUs, no two regions overlap, no position is free, and no CTU has its left or upper neighbour in a later region.
+/// CTUs have `ctb` times `ctb` samples. Regions fit if all of this holds:
+///
+/// - The frame is at most 16,384 wide and high.
+/// - Each corner is on the grid of CTUs.
+/// - No two regions overlap, and no position of the frame is free.
+/// - No CTU has its left or upper neighbour in a later region.
+///
 /// Takes no memory, and time with the square of the number of regions.
 ///
 /// # Errors

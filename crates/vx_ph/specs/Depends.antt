@@ -112,7 +112,7 @@ HeaderReadAgain = (table : RplTable) (s t : List ℕ) (old new : Place) (items a
 -- ---- rewritten
 
 -- A header can be rewritten under other sets that agree on what kept fields depend on, and whose PPS has filter and QP in slice
--- headers: with its kept fields, another id of the PPS, and other LMCS and scaling lists that go through there.
+-- headers. It then has its kept fields, another id of the PPS, and other LMCS and scaling lists that go through there.
 abbrev pub HeaderRewrites : Type 0
 HeaderRewrites = (table : RplTable) (s t : List ℕ) (values : List ℤ) (end : List ℕ) (id : ℕ) (maps : List Item)
     → Agree kept_of_sets s t → slice_index t pps.pps_alf_info_in_ph_flag ≡ 0 → slice_index t pps.pps_qp_delta_info_in_ph_flag ≡ 0

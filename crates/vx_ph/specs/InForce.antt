@@ -23,8 +23,8 @@ in_force sps pps = both_sets (loaded fresh sps) (loaded fresh pps) (extra_ph_bit
 abbrev pub structures : List Item → RplTable
 structures sps = table_of (is_weighted sps) sps
 
--- If sets give each of some fields the same number, an SPS those below the first field of a PPS, and a PPS those from there on, and
--- have the same number of extra bits, then their scopes agree on these fields.
+-- Sets that agree on some fields have scopes that agree on them. An SPS counts for the fields below the first of a PPS, and a PPS
+-- for those from there on; the number of extra bits must be the same.
 abbrev pub SetsAgree : Type 0
 SetsAgree = (fields : List ℕ) (sps other_sps pps other_pps : List Item)
     → All (λ n. n < pps_pic_parameter_set_id → number sps n ≡ number other_sps n) fields

@@ -33,8 +33,8 @@ AreAlike (p ∷ ps) (q ∷ qs) = (p.kind ≡ q.kind) × AlikeForCounts p.begun q
 AreAlike [] (q ∷ qs) = ⊥
 AreAlike (p ∷ ps) [] = ⊥
 
--- A kind, with its count, that comes next after pictures comes next after pictures that are alike, with an SPS that is that of
--- the picture before, unless the kind starts a coded layer video sequence.
+-- A kind, with its count, that comes next after pictures also comes next after pictures that are alike. Its SPS must be that of the
+-- picture before, unless the kind starts a coded layer video sequence.
 abbrev pub AlikeIsNext : Type 0
 AlikeIsNext = (ps qs : List Picture) (b c : Begun) (k : Kind) → AreAlike ps qs → AlikeForCounts b c
     → (k.clvss ≡ false → is_changed qs c.sps ≡ false) → IsNext ps b k → IsNext qs c k

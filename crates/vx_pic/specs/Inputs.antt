@@ -121,8 +121,8 @@ has_several_tiles n = nat_lt 2 (length n.columns) || nat_lt 2 (length n.rows)
 abbrev pub has_several_slices : Numbers → Bool
 has_several_slices n = nat_lt 1 (length n.slices)
 
--- The place of the slice at an address of subpicture k (7.4.8): the subpicture's width and height in luma samples, and its layout;
--- the address; and whether in-loop filters cross the borders of its tiles, and of its slices (7.4.3.5), false if it has only one.
+-- The place of the slice at an address of subpicture k (7.4.8): the subpicture's size in luma samples, its layout, and the address.
+-- Also whether in-loop filters cross the borders of its tiles, and of its slices (7.4.3.5), false if it has only one.
 abbrev pub place_in : Parts → ℕ → ℕ → Place
 place_in p k address = record {
   width = luma_size (rect_of p.sps k).x (rect_of p.sps k).w (ctb_size_of p.sps) (number p.pps pps.pps_pic_width_in_luma_samples);

@@ -56,8 +56,9 @@ pub record SlicePart : Type 0 where
   pub header : SliceValue
   pub payload : ℕ
 
--- A picture: its kind, the items of its sets, its layout, its header, the ids of its subpictures, the PH unit if it has one, its
--- slices in order, its adaptation parameter sets (those of type 0 by their ids, then those of types 1 and 2), and its messages.
+-- A picture: its kind, the items of its sets, its layout, its header, the ids of its subpictures, the PH unit if it has one, and
+-- its slices in order. Then its adaptation parameter sets (those of type 0 by their ids, then those of types 1 and 2), and its
+-- messages.
 pub record Parts : Type 0 where
   pub kind : Kind
   pub sps : List Item

@@ -9,7 +9,7 @@ use Rattle.vx_sei.specs.declared.message.Message.{Message}
 use Rattle.vx_pic.specs.declared.kind.Kind.{Kind}
 use Rattle.vx_pic.specs.Sets.{SliceHeader, sps_id, pps_id}
 
--- A picture header with what is in force for it: the sets to which it refers, their layout, and its TemporalId; and the PH unit in
+-- A picture header with what is in force for it: the sets to which it refers, their layout, and its TemporalId. Also the PH unit in
 -- which it came, None if it is inside a slice.
 pub record Begun : Type 0 where
   pub sps : List Item

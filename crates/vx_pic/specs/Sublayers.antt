@@ -14,8 +14,8 @@ at_most tid ps = filter (λ p. nat_le p.kind.temporal_id tid) ps
 abbrev pub KeepsStarts : ℕ → List Picture → Type 0
 KeepsStarts tid ps = AllByRecursion (λ p. nat_le p.kind.temporal_id tid ≡ false → is_irap_or_gdr p.kind.nal_type ≡ false) ps
 
--- Then those that are kept follow one another as pictures of a stream do: with the same kinds, so that a sequence ended and a coded
--- layer video sequence starts where one did, with the same counts (8.3.1), and with one SPS in such a sequence.
+-- Then those that are kept follow one another as pictures of a stream do. They have the same kinds, so that a sequence ended and a
+-- coded layer video sequence starts where one did, with the same counts (8.3.1), and one SPS in such a sequence.
 abbrev pub KeptAreFinished : Type 0
 KeptAreFinished = (R : Readers) (tid : ℕ) (ps : List Picture) → AreFinished R ps → KeepsStarts tid ps → AreFinished R (at_most tid ps)
 

@@ -32,8 +32,8 @@ block g t wide high = record {
 abbrev pub tile : Tiles → ℕ → Rect
 tile g t = block g t 1 1
 
--- The tile at which the next slice begins if its index isn't coded, after a slice with these numbers of tiles across and down,
--- less 1 each: the one to its right, or after the last column the first one below it (6.5.1, SliceTopLeftTileIdx).
+-- The tile at which the next slice begins if its index isn't coded. The slice before has these numbers of tiles across and down,
+-- less 1 each. It is the tile to its right, or after the last column the first one below it (6.5.1, SliceTopLeftTileIdx).
 abbrev pub tile_behind : Tiles → ℕ → ℕ → ℕ → ℕ
 tile_behind g t width height = t + (width + 1) + cond ((t + (width + 1)) % across g == 0) (height * across g) 0
 

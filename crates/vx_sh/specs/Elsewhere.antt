@@ -45,8 +45,8 @@ pub record IsSameSlice (header other : SliceHeader) : Type 0 where
   pub address : other.address ≡ header.address
   pub lists : other.lists ≡ header.lists
 
--- What begins with a slice header at one place begins at another that agrees with it for its subpicture with the same, of the same
--- bytes: only the index of the subpicture is that of its id there.
+-- If an RBSP begins with a slice header at one place, then it begins with the same header, of the same bytes, at another place that
+-- agrees with it for its subpicture. Only the index of the subpicture is that of its id there.
 abbrev pub SliceReadElsewhere : Type 0
 SliceReadElsewhere = (n m : At) (rbsp : List ℕ) (header : SliceHeader) (size : ℕ) → length n.slice ≡ 1024
     → AgreeAt n m (number header.fields sh_subpic_id) → BeginsSlice n rbsp header size

@@ -52,8 +52,8 @@ in_force_at n = at_sets n.nal_type n.sps.now n.pps.now n.header.now n.ids.now n.
 abbrev pub beside : List ℕ
 beside = ENTRIES_0 ∷ ENTRIES_1 ∷ NAL_TYPE ∷ EXTRA_SH_BITS ∷ DEFAULT_ACTIVE_0 ∷ DEFAULT_ACTIVE_1 ∷ []
 
--- If sets and picture headers give each of some fields the same number, each those of its own range, and have the same additional
--- numbers, then slices of one type have scopes that agree on these fields; the additional names may be among them.
+-- Sets and picture headers that agree on some fields, each on those of its own range, give slices of one type scopes that agree on
+-- them. The additional numbers must be the same, and the additional names may be among the fields.
 abbrev pub SliceScopesAgree : Type 0
 SliceScopesAgree = (fields : List ℕ) (nal_type : ℕ) (sps other_sps pps other_pps : List Item) (header other : PictureHeader)
     → All (λ n. n < pps_pic_parameter_set_id → number sps n ≡ number other_sps n) fields

@@ -60,7 +60,7 @@ stated_sh_items n shape =
     ++ ((stated_filter_items n.sps.now shape.filter.now ++ use_items n.header.now.fields shape.uses_lmcs shape.uses_scaling)
     ++ qp_items shape.qp_delta)
 
--- Numbers that a header can have there: the id is that of a subpicture, and 0 if it isn't coded; the filter goes through under the
+-- Numbers that a header can have there. The id is that of a subpicture, and 0 if it isn't coded; the filter goes through under the
 -- sets, if the SPS has it; and the QP has a code.
 pub record IsShape (n : SliceNumbers) (shape : ShShape) : Type 0 where
   pub known : index_of shape.subpic_id n.ids.now < length n.ids.now
@@ -84,9 +84,9 @@ pub record AreSameForSlices (header other : PictureHeader) : Type 0 where
   pub first : length other.lists.first ≡ length header.lists.first
   pub second : length other.lists.second ≡ length header.lists.second
 
--- A slice header that was read, in a unit of the same type, under sets and a picture header whose kept fields these are, and in a
--- subpicture that has the slices of the one with this id; the picture header is one under these sets, and the PPS has the filter and
--- the QP in slice headers.
+-- A slice header that was read in a unit of the same type, under sets and a picture header whose kept fields these are. Its
+-- subpicture has the slices of the one with this id; the picture header is one under these sets, and the PPS has the filter and the
+-- QP in slice headers.
 pub record GoesAt (source : SliceHeader) (id : ℕ) (n : SliceNumbers) : Type 0 where
   pub sps : List Item
   pub pps : List Item

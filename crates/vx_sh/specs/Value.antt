@@ -78,8 +78,8 @@ abbrev pub SpellingIsRead : Type 0
 SpellingIsRead = (n : At) (fields header : List Item) (bytes payload : List ℕ) (read : SliceHeader) (size : ℕ)
     → IsSliceHeaderSpelling n fields header bytes → BeginsSlice n (bytes ++ payload) read size → (read.fields ≡ fields) × (size ≡ length bytes)
 
--- The scope at the end of a slice header has the numbers that its items give: whether the picture header is inside, the index of
--- the id, which is one of those of the subpictures, and the address.
+-- The scope at the end of a slice header has the numbers that its items give. They are whether the picture header is inside, the
+-- index of the id, which is one of those of the subpictures, and the address.
 pub record AreToldBySlice (n : At) (fields : List Item) (end : List ℕ) : Type 0 where
   pub inside : slice_index end sh_picture_header_in_slice_header_flag ≡ number fields sh_picture_header_in_slice_header_flag
   pub subpic : slice_index end SUBPIC ≡ index_of (number fields sh_subpic_id) n.ids

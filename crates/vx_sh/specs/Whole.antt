@@ -73,7 +73,7 @@ header_inside table sets =
     present (When (Plain (Latest sh_picture_header_in_slice_header_flag))) (λ s. header_form table sets >>= λ t. done s)
 
 -- What a slice header is read and written under: the SPS's structures of lists, the numbers of the sets, these with the numbers of
--- the picture header and of the slice, the ids of the subpictures, and the layout (our own).
+-- the picture header and of the slice, the subpictures' ids, and the layout (our own).
 pub record At : Type 0 where
   pub table : RplTable
   pub sets : List ℕ

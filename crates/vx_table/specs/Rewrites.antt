@@ -36,8 +36,9 @@ pub record Goes (names end : List ℕ) (shown others : List Item) (form : Form (
   pub shown_ones : shown_items names (items_along form values) ≡ shown
   pub other_ones : other_items names (items_along form values) ≡ others
 
--- The values go through a structure at a scope, to an end. At each scope that agrees with it on a set, and in which some names have
--- no number yet, values with the same items of the set's fields, and with these of the others, go through it to an end that agrees.
+-- The values go through a structure at a scope, to an end. Take any scope that agrees with it on a set, and in which some names
+-- have no number yet. There, values with the same items of the set's fields, and with these of the others, go through it to an end
+-- that agrees.
 pub record Rewrites (names none : List ℕ) (form : List ℕ → Form (List ℕ)) (s : List ℕ) (values : List ℤ) (end : List ℕ)
     (others : List Item) : Type 0 where
   pub at : (t : List ℕ) → Agree names s t → Agree none fresh t

@@ -70,7 +70,7 @@ sections_stars_tell shown sections = sections_pass (star_tells shown) sections
 pub record KeepsOnly (given shown : List ℕ) (form : List ℕ → Form (List ℕ)) : Type 0 where
   pub keeps : (s : List ℕ) → KeepsShown (given ++ shown) (form s)
 
--- Kept fields depend only on kept fields and on the given numbers: if a form keeps what is shown, and the shown depend only on the
+-- Kept fields depend only on kept fields and on the given numbers. If a form keeps what is shown, and the shown depend only on the
 -- given, then equal kept items at scopes that agree on the given come from equal kept fields, with equal codings and ranges.
 abbrev pub KeptTellsKept : Type 0
 KeptTellsKept = (given shown : List ℕ) (form : List ℕ → Form (List ℕ)) (s t a b : List ℕ) (v w : List ℤ) → DependsOnlyOn given shown form

@@ -62,9 +62,9 @@ LinesAreOne =
     (columns rows others below : List ℕ) (corners : List Rect) (parts : List Numbers)
     → HaveLines columns rows corners parts → HaveLines others below corners parts → (columns ≡ others) × (rows ≡ below)
 
--- The frame of these columns, rows and regions, with these pictures in them, is a layout by its regions and as one subpicture;
--- its slices can be listed tile by tile; its region k is picture k; it has the frame's size in CTUs; and its first region
--- begins it, and its last one ends it.
+-- The frame of these columns, rows and regions, with these pictures in them, is a layout by its regions and as one subpicture. Its
+-- slices can be listed tile by tile, and its region k is picture k. It has the frame's size in CTUs; its first region begins it,
+-- and its last one ends it.
 pub record IsMergedLayout (placed : List Placed) (ctb : ℕ) (columns rows : List ℕ) (corners : List Rect) (parts : List Numbers) : Type 0 where
   pub layout : IsLayout (frame_of columns rows corners parts)
   pub alone : IsLayout (with_one_subpic (frame_of columns rows corners parts))

@@ -8,7 +8,7 @@ use Rattle.vx_pic.specs.Written.{Plan}
 use Rattle.vx_pic.specs.Resident.{planned_of, IsPlanned, AreAllPlanned}
 use Rattle.vx_pic.specs.Finished.{AreFinished}
 
--- A plan after others in the place of a picture after those before it: its kind is the picture's, its header agrees on what counts
+-- A plan after others in the place of a picture after those before it. Its kind is the picture's, its header agrees on what counts
 -- depend on, and its SPS is that of the plan before, unless it starts a coded layer video sequence. Except for its place among the
 -- pictures it is as a plan must be.
 pub record IsEdit (R : Readers) (earlier : List Picture) (p : Picture) (done : List Plan) (q : Plan) : Type 0 where

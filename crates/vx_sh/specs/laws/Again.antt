@@ -27,7 +27,7 @@ SlicesReadAgain = (table : RplTable) (points : ℕ → ℕ) (s t : List ℕ) (ol
 abbrev pub kept : List ℕ
 kept = kept_given ++ kept_with_names
 
--- A slice header can be rewritten at each scope that agrees on the numbers that kept fields depend on: with its kept fields,
+-- A slice header can be rewritten at each scope that agrees on the numbers that kept fields depend on. It then has its kept fields,
 -- another filter, other uses of LMCS and scaling lists, and another QP, whatever the scope requires for these.
 abbrev pub SlicesRewrite : Type 0
 SlicesRewrite = (table : RplTable) (points : ℕ → ℕ) (s t : List ℕ) (values : List ℤ) (end : List ℕ) (uses delta : List Item)
