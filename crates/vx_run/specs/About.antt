@@ -1,11 +1,11 @@
--- What `--help` and `--version` write: the text, byte for byte. Our own.
+-- The texts of `--help` and `--version`, byte for byte. Our own. The contracts of `help`, `version` and `run` rely on them.
 use Rattle.std.specs.Prelude.{ℕ, List, [], ◌∷◌, codes, Ok, Err}
 use Rattle.std.specs.List.{concat}
 use Rattle.vx_run.specs.declared.stop.Stop.TheVariants.{WriteFault}
 use Rattle.vx_run.specs.Change.{Change, Gains, GainsFront}
 use Rattle.vx_run.specs.Conclusion.{Outcome}
 
--- the commands, the statuses, and the rules by their letters and numbers
+-- The commands, the statuses, and the rules by their letters and numbers.
 unfoldable pub help_text : List ℕ
 help_text = concat
     (codes "goosequince: merges and extracts subpictures of VVC streams (H.266, Annex B)\n"
@@ -84,11 +84,11 @@ help_text = concat
     ∷ codes "     input differs, in its part and field, C5 a file ended before another\n"
     ∷ [])
 
--- the name and the version
+-- The name and the version.
 unfoldable pub version_text : List ℕ
 version_text = codes "goosequince 0.2.0\n"
 
--- a text was written, or a front of it where a write failed, and nothing else stopped it
+-- The text was written, or a prefix of it if a write failed; nothing else stopped it.
 abbrev pub Writes : {K : Type 0} → List ℕ → Change K → Outcome → Type 0
 Writes text out (Ok _) = Gains out text
 Writes text out (Err WriteFault) = GainsFront out text

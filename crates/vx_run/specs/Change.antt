@@ -1,12 +1,12 @@
--- What a call did to sources and sinks, as its caller sees it. Our own.
+-- What a call did to sources and sinks, as its caller sees it. Our own. All promises of `run` are stated with it.
 use Rattle.std.specs.Prelude.{◌≡◌, ℕ, List, ◌⊎◌, Option, option_and_then, slice_get}
 use Rattle.std.specs.Option.{option_map_or}
 use Rattle.std.specs.Io.KnownBytes.{Appends, Consumes}
 use Rattle.vx_io.specs.Faults.{Rose}
 use Rattle.vx_io.specs.Written.{AppendsFront}
 
--- A source or a sink before and after a call, with the bytes that it tells (those left in a source,
--- those taken by a sink) and its count of faults.
+-- A source or a sink before and after a call, with its known bytes (those left in a source, those taken by a sink) and its count of
+-- faults.
 pub record Change (A : Type 0) : Type 0 where
   pub bytes : A → Option (List ℕ)
   pub faults : A → ℕ
@@ -16,7 +16,7 @@ pub record Change (A : Type 0) : Type 0 where
 abbrev pub change : {A : Type 0} → (A → Option (List ℕ)) → (A → ℕ) → A → A → Change A
 change bytes faults old new = record { bytes = bytes; faults = faults; old = old; new = new }
 
--- the sources of a list before and after a call
+-- The sources of a list before and after a call.
 pub record Sources (A : Type 0) : Type 0 where
   pub bytes : A → Option (List ℕ)
   pub faults : A → ℕ
@@ -26,40 +26,40 @@ pub record Sources (A : Type 0) : Type 0 where
 abbrev pub sources_change : {A : Type 0} → (A → Option (List ℕ)) → (A → ℕ) → List A → List A → Sources A
 sources_change bytes faults old new = record { bytes = bytes; faults = faults; old = old; new = new }
 
--- the source at k of them, where there is one
+-- Source k of them, if there is one.
 abbrev pub source_at : {A : Type 0} → Sources A → ℕ → Change (Option A)
 source_at s k = change (option_and_then s.bytes) (λ x. option_map_or s.faults x 0) (slice_get s.old k) (slice_get s.new k)
 
--- nothing was done to any of them
+-- Nothing was done to any of them.
 abbrev pub AreUntouched : {A : Type 0} → Sources A → Type 0
 AreUntouched s = s.new ≡ s.old
 
--- nothing was done to it
+-- Nothing was done to it.
 abbrev pub IsUntouched : {A : Type 0} → Change A → Type 0
 IsUntouched c = c.new ≡ c.old
 
--- no read or write of it failed
+-- No read or write of it failed.
 abbrev pub HasNoFault : {A : Type 0} → Change A → Type 0
 HasNoFault c = c.faults c.new ≡ c.faults c.old
 
--- a read or a write of it failed
+-- A read or a write of it failed.
 abbrev pub HasFault : {A : Type 0} → Change A → Type 0
 HasFault c = Rose (c.faults c.old) (c.faults c.new)
 
--- a source gave some bytes, from its front and in order
+-- A source gave some bytes, in order from its next one.
 abbrev pub GivesFront : {A : Type 0} → Change A → Type 0
 GivesFront c = (given : List ℕ) × Consumes (c.bytes c.old) (c.bytes c.new) given
 
--- a sink gained these bytes, and no write failed
+-- A sink gained these bytes, and no write failed.
 pub record Gains {A : Type 0} (c : Change A) (bytes : List ℕ) : Type 0 where
   pub kept : HasNoFault c
   pub gained : Appends (c.bytes c.old) (c.bytes c.new) bytes
 
--- a write failed, and the sink gained a front of these bytes
+-- A write failed, and the sink gained a prefix of these bytes.
 pub record GainsFront {A : Type 0} (c : Change A) (bytes : List ℕ) : Type 0 where
   pub failed : HasFault c
   pub gained : AppendsFront (c.bytes c.old) (c.bytes c.new) bytes
 
--- a line was written, or a front of it where a write failed
+-- A line was written, or a prefix of it if a write failed.
 abbrev pub Tells : {A : Type 0} → Change A → List ℕ → Type 0
 Tells c line = Gains c line ⊎ GainsFront c line

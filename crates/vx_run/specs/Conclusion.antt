@@ -1,4 +1,4 @@
--- What came of a command, and how it ends the program: the status, and the line that tells why. Our own.
+-- The outcome of a command, and how it ends the program: the status, and the line that says why. Our own.
 use Rattle.std.specs.Prelude.{◌≡◌, ◌<◌, ◌≤◌, ℕ, true, false, List, [], ◌∷◌, ◌⊎◌, Result, Ok, Err, codes, decimal}
 use Rattle.std.specs.List.{concat}
 use Rattle.vx_report.specs.declared.refusal.Where.{Where}
@@ -10,11 +10,11 @@ use Rattle.vx_run.specs.declared.stop.Place.TheVariants as places
 use Rattle.vx_run.specs.declared.stop.Stop.{Stop}
 use Rattle.vx_run.specs.declared.stop.Stop.TheVariants.{NotUnderstood, Refused, Mismatched, ReadFault, WriteFault, NoMemory}
 
--- it is done, or it stopped
+-- It is done, or it stopped.
 abbrev pub Outcome : Type 0
 Outcome = Result (Unit {0}) Stop
 
--- 1 refused or not verified, 2 words, 3 fault, 4 want of memory
+-- 1 for refused or not verified, 2 for arguments, 3 for a fault, 4 for lack of memory.
 abbrev pub status_of : Stop → ℕ
 status_of NotUnderstood = 2
 status_of (Refused refusal place) = 1
@@ -23,13 +23,13 @@ status_of (ReadFault source) = 3
 status_of WriteFault = 3
 status_of NoMemory = 4
 
--- a place as the line of a refusal takes it: a limit at a picture is one on what was to be written
+-- A place as the line of a refusal takes it: a limit at a picture is about what was to be written.
 abbrev pub where_told : Place → Where
 where_told (places.Unit k n) = record { source = k; unit = n; picture = 0; written = false }
 where_told (places.Picture n) = record { source = 0; unit = 0; picture = n; written = true }
 where_told places.Words = record { source = 0; unit = 0; picture = 0; written = false }
 
--- the line, with its line feed
+-- The line, with its line feed.
 abbrev pub line_of : Stop → List ℕ
 line_of NotUnderstood = codes "words not understood\n"
 line_of (Refused refusal place) = refusal_text refusal (where_told place)
@@ -38,7 +38,7 @@ line_of (ReadFault source) = concat (codes "read fault source " ∷ decimal sour
 line_of WriteFault = codes "write fault\n"
 line_of NoMemory = codes "no memory\n"
 
--- a line of these has parts that are made in memory
+-- A line of these has parts that are made in memory.
 abbrev pub IsMade : Stop → Type 0
 IsMade NotUnderstood = ⊥
 IsMade (Refused refusal place) = Unit {0}
@@ -47,24 +47,24 @@ IsMade (ReadFault source) = Unit {0}
 IsMade WriteFault = ⊥
 IsMade NoMemory = ⊥
 
--- a command that the words ask for stopped
+-- A command that the arguments ask for stopped.
 abbrev pub IsOfCommand : Stop → Type 0
 IsOfCommand NotUnderstood = ⊥
 IsOfCommand _ = Unit {0}
 
--- the status and the line on `err` are the stop's, or those for want of memory
+-- The status and the line on `err` are those of the stop, or those for lack of memory.
 pub record Concludes {E : Type 0} (stop : Stop) (status : ℕ) (err : Change E) : Type 0 where
   pub ended :
       ((status ≡ status_of stop) × Tells err (line_of stop))
       ⊎ (IsMade stop × (status ≡ status_of NoMemory) × Tells err (line_of NoMemory))
 
--- status 0 and no line where the command is done
+-- The status is 0, with no line, if the command is done.
 abbrev pub ExitsWith : {E : Type 0} → Outcome → ℕ → Change E → Type 0
 ExitsWith (Ok _) status err = (status ≡ 0) × IsUntouched err
 ExitsWith (Err stop) status err = Concludes stop status err
 
--- How the last write, of what was gathered, ends a command of this status. Where it doesn't fail, and where a fault or want of memory was
--- told before, the status stays, and nothing more is told; else it is a write fault.
+-- How the last write, of what was gathered, ends a command of this status. If it doesn't fail, or if a fault or lack of memory was
+-- reported before, the status stays and nothing more is reported. Otherwise it is a write fault.
 abbrev pub Finishes : {K E : Type 0} → ℕ → Change K → ℕ → Change E → Type 0
 Finishes status last result err =
     ((HasNoFault last ⊎ (1 < status)) × (result ≡ status) × IsUntouched err)

@@ -31,17 +31,17 @@ use Rattle.vx_run.specs.Conclusion.{Outcome, IsOfCommand}
 use Rattle.vx_run.specs.ReadAgain.{IsReadAgain}
 use Rattle.vx_run.specs.Show.{IsToldAt}
 
--- what is asked for: the subpicture of this index, at a level, and without the pictures of a TemporalId above one; 6 is the highest
+-- The request: the subpicture of this index, at a level, of the pictures up to a TemporalId; 6 is the highest.
 abbrev pub task_of : (tid level : Option ℕ) (index : ℕ) → Task
 task_of tid level index = record { target = index; level = level; tid = unwrap_or tid 6 }
 
 -- ---- pictures
 
--- none breaks a rule
+-- None breaks a rule.
 abbrev pub BreakNoRule : Task → List Picture → Type 0
 BreakNoRule t ps = AllByRecursion (λ p. refusal_of t.target t.tid (parts_of p) ≡ None) ps
 
--- behind these pictures comes the first that breaks a rule, which is refused so
+-- After these pictures comes the first that breaks a rule, which is refused with this.
 pub record BreaksBehind (t : Task) (ps before : List Picture) (r : Refusal) : Type 0 where
   pub later : List Picture
   pub picture : Picture
@@ -49,14 +49,14 @@ pub record BreaksBehind (t : Task) (ps before : List Picture) (r : Refusal) : Ty
   pub kept : BreakNoRule t before
   pub broken : refusal_of t.target t.tid (parts_of picture) ≡ Some r
 
--- the subpicture can be extracted: the stream is whole, it has a picture, and none breaks a rule
+-- The subpicture can be extracted: the stream is whole, it has a picture, and none breaks a rule.
 pub record IsExtractable (t : Task) (ps : List Picture) (ending : Option Ending) : Type 0 where
   pub whole : ending ≡ None
   pub some : 0 < length ps
   pub rules : BreakNoRule t ps
 
--- The last unit that was taken of a source completed this picture, behind these. The source has given fewer bytes past the place where
--- the end of that unit is seen than a read asks for.
+-- The last unit taken of a source completed this picture, after these. The source has given fewer bytes past the place that shows the end
+-- of that unit than a read asks for.
 pub record StopsBehind {A : Type 0} (R : Readers) (source : Change A) (picture : Picture) (before : List Picture) : Type 0 where
   pub given : List ℕ
   pub units : List UnitPlace
@@ -71,8 +71,8 @@ pub record StopsBehind {A : Type 0} (R : Readers) (source : Change A) (picture :
   pub whole : ended ≡ true → IsAtEnd (source.bytes source.new)
   pub near : IsNearEnd given units
 
--- What is refused behind these pictures, and at which place: what ends the stream; a picture that breaks a rule, the last that was taken;
--- or that there is none.
+-- What is refused after these pictures, and at which place. It is the end of the stream; or a picture that breaks a rule, the last that
+-- was taken; or that there is none.
 pub data RefusesExtraction {A : Type 0} (R : Readers) (t : Task) (source : Change A) (ps : List Picture) (ending : Option Ending)
     (before : List Picture) (r : Refusal) (place : Place) : Type 0 where
   by_ending : before ≡ ps → BreakNoRule t ps → IsToldAt ending r place → RefusesExtraction R t source ps ending before r place
@@ -81,7 +81,7 @@ pub data RefusesExtraction {A : Type 0} (R : Readers) (t : Task) (source : Chang
   without : before ≡ ps → ps ≡ [] → ending ≡ None → IsAtEnd (source.bytes source.new) → r ≡ Extract NO_PICTURE → place ≡ places.Picture 0
       → RefusesExtraction R t source ps ending before r place
 
--- of the bytes that a source tells, their pictures and their ending
+-- For a source with known bytes: this holds of its pictures and its ending.
 abbrev pub WhereTold : {A : Type 0} → Readers → Change A → (List Picture → Option Ending → Type 0) → Type 0
 WhereTold R source P =
     (b : List ℕ) (ps : List Picture) (ending : Option Ending)
@@ -91,7 +91,7 @@ WhereTold R source P =
 abbrev pub BeginsWithPictures : List Picture → List Picture → Type 0
 BeginsWithPictures ps first = (later : List Picture) × (ps ≡ later ++ first)
 
--- A read failed: these are the pictures that are seen in what the source has given, however that goes on, and none breaks a rule.
+-- A read failed. These are the pictures that are complete in what the source has given, however it goes on, and none breaks a rule.
 pub record HasSeen {A : Type 0} (R : Readers) (t : Task) (source : Change A) (ps : List Picture) : Type 0 where
   pub given : List ℕ
   pub gave : Consumes (source.bytes source.old) (source.bytes source.new) given
@@ -100,7 +100,7 @@ pub record HasSeen {A : Type 0} (R : Readers) (t : Task) (source : Change A) (ps
 
 -- ---- `extract`
 
--- what is written of these pictures
+-- The bytes are what is written of these pictures.
 abbrev pub AreExtractedInto : Task → List Picture → List ℕ → Type 0
 AreExtractedInto t ps bytes = IsExtraction t.target t.level (map parts_of (at_most t.tid ps)) bytes
 
@@ -108,8 +108,8 @@ AreExtractedInto t ps bytes = IsExtraction t.target t.level (map parts_of (at_mo
 abbrev pub GainsExtraction : {K : Type 0} → Readers → Task → List Picture → Change K → Type 0
 GainsExtraction R t ps out = (bytes : List ℕ) × AreExtractedInto t ps bytes × Gains out bytes × IsReadAgain R t ps bytes
 
--- A write of a picture failed: `out` gained all that is written of the pictures before it, which is read again as above, and behind that a
--- front of what is written of it, and not all of that.
+-- A write of a picture failed. `out` gained all that is written of the pictures before it, which is read again as above, and after that a
+-- proper prefix of what is written of it.
 pub record BreaksOff {K : Type 0} (R : Readers) (t : Task) (picture : Picture) (before : List Picture) (out : Change K) : Type 0 where
   pub done : List Plan
   pub plan : Plan
@@ -131,8 +131,8 @@ pub record ExtractsFront {A K : Type 0} (R : Readers) (t : Task) (source : Chang
   pub first : WhereTold R source (λ ps ending. BeginsWithPictures ps (picture ∷ before))
   pub breaks : BreaksOff R t picture before out
 
--- What `extract` did to its source and to `out`, by what came of it. Where it was done or refused, `out` gained what is written of the
--- pictures before the ending, and for want of memory of the first of them, which break no rule.
+-- What `extract` did to its source and to `out`, by its outcome. If it is done or refused, `out` gained what is written of the pictures
+-- before the ending. After lack of memory it gained what is written of the first of them, which break no rule.
 abbrev pub ExtractsBy : {A K : Type 0} → Readers → Task → Change A → Change K → Outcome → Type 0
 ExtractsBy R t source out (Ok _) =
     HasNoFault source × HasNoFault out × GivesFront source × IsAtEnd (source.bytes source.new)
@@ -148,7 +148,7 @@ ExtractsBy R t source out (Err NoMemory) =
     × WhereTold R source (λ ps ending. (first : List Picture) × BeginsWithPictures ps first × BreakNoRule t first × GainsExtraction R t first out)
 ExtractsBy R t source out (Err _) = ⊥
 
--- that is so by the readers of H.266; and the words were understood
+-- That holds for the readers of H.266, and the arguments were understood.
 abbrev pub Extracts : {A K : Type 0} → Task → Change A → Change K → Outcome → Type 0
 Extracts t source out outcome = IfErr outcome IsOfCommand × ((R : Readers) → AreOfH266 R → ExtractsBy R t source out outcome)
 
@@ -158,11 +158,11 @@ Extracts t source out outcome = IfErr outcome IsOfCommand × ((R : Readers) → 
 abbrev pub ok_text : ℕ → List ℕ
 ok_text n = concat (codes "ok pictures " ∷ decimal n ∷ codes "\n" ∷ [])
 
--- how many pictures are kept
+-- How many pictures are kept.
 abbrev pub ok_line : Task → List Picture → List ℕ
 ok_line t ps = ok_text (length (at_most t.tid ps))
 
--- What `check extract` did to them: it says what `extract` would come to, and writes that line alone.
+-- What `check extract` did to them: it reports what `extract` would do, and writes only that line.
 abbrev pub ChecksBy : {A K : Type 0} → Readers → Task → Change A → Change K → Outcome → Type 0
 ChecksBy R t source out (Ok _) =
     HasNoFault source × HasNoFault out × GivesFront source × IsAtEnd (source.bytes source.new)

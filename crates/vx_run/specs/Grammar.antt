@@ -1,19 +1,19 @@
--- The grammar of the program's words. A word is the list of its bytes. Our own.
+-- The grammar of the program's arguments. An argument is the list of its bytes. Our own. Every promise of `run` relies on it.
 use Rattle.std.specs.Prelude.{◌≡◌, ◌≢◌, ℕ, ◌<◌, ◌≤◌, ◌^◌, Bool, true, false, List, [], ◌∷◌, ◌++◌, map, length, Contains, codes, decimal, Option, Some, None, IfSome, String, string_bytes}
 use Rattle.std.specs.List.{AllByRecursion}
 use Rattle.vx_explain.specs.Explained.{rules, fields}
 
--- the bytes of each word
+-- The bytes of each argument.
 abbrev pub texts : {A : Type 0} → List (String A) → List (List ℕ)
 texts words = map string_bytes words
 
--- a file, and the upper left corner of its region in a frame, in luma samples
+-- A file, and the upper left corner of its region in a frame, in luma samples.
 pub record Placing : Type 0 where
   pub x : ℕ
   pub y : ℕ
   pub file : List ℕ
 
--- what the words ask for
+-- What the arguments ask for.
 pub data Command : Type 0 where
   show : (with_fields : Bool) → List ℕ → Command
   extract : (tid level : Option ℕ) (index : ℕ) → List ℕ → Command
@@ -27,7 +27,7 @@ pub data Command : Type 0 where
   version : Command
   explain : List ℕ → Command
 
--- an option with its number, where there is one: `--tid T`
+-- An option with its number, if there is one: `--tid T`.
 abbrev pub option_words : List ℕ → Option ℕ → List (List ℕ)
 option_words name None = []
 option_words name (Some n) = name ∷ decimal n ∷ []
@@ -38,12 +38,12 @@ tid_words tid = option_words (codes "--tid") tid
 abbrev pub level_words : Option ℕ → List (List ℕ)
 level_words level = option_words (codes "--level") level
 
--- `--fields`, where the fields of sets and headers are asked for
+-- `--fields`, if the fields of sets and headers are asked for.
 abbrev pub fields_words : Bool → List (List ℕ)
 fields_words true = codes "--fields" ∷ []
 fields_words false = []
 
--- `X,Y=FILE`: the file's name begins behind the first `=`
+-- `X,Y=FILE`: the file's name begins after the first `=`.
 abbrev pub placing_word : Placing → List ℕ
 placing_word p = decimal p.x ++ (codes "," ++ (decimal p.y ++ (codes "=" ++ p.file)))
 
@@ -63,7 +63,7 @@ spelling help = codes "--help" ∷ []
 spelling version = codes "--version" ∷ []
 spelling (explain word) = codes "--explain" ∷ word ∷ []
 
--- a TemporalId (7.4.2.2), a level (general_level_idc, 7.4.4.1), and the index of a subpicture (sps_num_subpics_minus1, 7.4.3.4)
+-- A TemporalId (7.4.2.2), a level (general_level_idc, 7.4.4.1), and the index of a subpicture (sps_num_subpics_minus1, 7.4.3.4).
 abbrev pub IsTid : Option ℕ → Type 0
 IsTid tid = IfSome tid (λ t. t ≤ 6)
 
@@ -73,19 +73,19 @@ IsLevel level = IfSome level (λ n. n ≤ 255)
 abbrev pub IsIndex : ℕ → Type 0
 IsIndex index = index ≤ 999
 
--- a corner within the greatest frame
+-- A corner within the greatest frame.
 abbrev pub IsPlacing : Placing → Type 0
 IsPlacing p = (p.x ≤ 16383) × (p.y ≤ 16383) × (p.file ≢ [])
 
--- a number that streams are made from, how many there are of them, and of pictures in each
+-- A number that streams are made from, how many there are of them, and of pictures in each.
 abbrev pub IsTrialInRange : (seed sources pictures : ℕ) → Type 0
 IsTrialInRange seed sources pictures = (seed < 2 ^ 32) × ((1 ≤ sources) × (sources ≤ 16)) × ((1 ≤ pictures) × (pictures ≤ 1000))
 
--- a rule, as `M8`, or the number of a field, as `606`
+-- A rule, as `M8`, or the number of a field, as `606`.
 unfoldable pub IsRuleOrField : List ℕ → Type 0
 IsRuleOrField word = Contains (rules ++ map decimal fields) word
 
--- a file's name has a byte, numbers are in their ranges, a merge has a source, and what is explained is a rule or a field
+-- A file's name has a byte, numbers are in their ranges, a merge has a source, and `--explain` has a rule or a field.
 abbrev pub IsWellNamed : Command → Type 0
 IsWellNamed (show with_fields file) = file ≢ []
 IsWellNamed (extract tid level index file) = IsTid tid × IsLevel level × IsIndex index × (file ≢ [])
@@ -99,16 +99,16 @@ IsWellNamed help = Unit {0}
 IsWellNamed version = Unit {0}
 IsWellNamed (explain word) = IsRuleOrField word
 
--- the words ask for this command
+-- The arguments ask for this command.
 pub record AskFor (words : List (List ℕ)) (command : Command) : Type 0 where
   pub spelled : words ≡ spelling command
   pub named : IsWellNamed command
 
--- the words ask for a command
+-- The arguments ask for a command.
 abbrev pub IsUnderstood : List (List ℕ) → Type 0
 IsUnderstood words = (command : Command) × AskFor words command
 
--- the files that a command names, in order
+-- The files that a command names, in order.
 abbrev pub files_of : Command → List (List ℕ)
 files_of (show with_fields file) = file ∷ []
 files_of (extract tid level index file) = file ∷ []
@@ -122,7 +122,7 @@ files_of help = []
 files_of version = []
 files_of (explain word) = []
 
--- the words name n files, and none where they ask for no command
+-- The arguments name n files, and none if they ask for no command.
 pub record NamesFiles (words : List (List ℕ)) (n : ℕ) : Type 0 where
   pub command : (command : Command) → AskFor words command → n ≡ length (files_of command)
   pub other : ¬ IsUnderstood words → n ≡ 0

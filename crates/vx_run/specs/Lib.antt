@@ -1,4 +1,4 @@
--- What the contracts of this crate cite.
+-- The definitions that the contracts of this crate cite.
 pub mod About
 pub mod Change
 pub mod Conclusion

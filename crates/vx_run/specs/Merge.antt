@@ -27,7 +27,7 @@ use Rattle.vx_run.specs.MergeAgain.{IsMergedAgain, IsToldBy, first_pictures}
 use Rattle.vx_run.specs.Rounds.{Stream, IsRound, NoneRefused, Telling, EndsIn, stream_refused, WhereAllTold, OfEachSource, OfAtMost}
 use Rattle.vx_run.specs.Rounds.{IsRead, IsReadOut, IsReadFor, OthersAreRead, AreReadTo, Sees}
 
--- the corners of the regions that words place files in
+-- The corners of the regions in which arguments place files.
 abbrev pub corner_of : Placing → Corner
 corner_of p = record { x = p.x; y = p.y }
 
@@ -42,11 +42,11 @@ AreRoundsWritten corners level ss [] = Unit {0}
 AreRoundsWritten corners level ss (p ∷ done) =
     ((round : List Parts) × IsRound ss (length done) round × Passes corners level round done p) × AreRoundsWritten corners level ss done
 
--- their bytes
+-- The bytes of these rounds.
 abbrev pub bytes_of : List Plan → List ℕ
 bytes_of done = written (units_written done)
 
--- They are read again as the merge of the pictures that these rounds were made of.
+-- Rounds that are written are read again as the merge of the pictures that they were made of.
 abbrev pub WrittenIsReadAgain : Type 0
 WrittenIsReadAgain =
     (R : Readers) (corners : List Corner) (level : Option ℕ) (ss : List Stream) (done : List Plan) → AreOfH266 R → AreCorners corners
@@ -55,11 +55,11 @@ WrittenIsReadAgain =
 
 -- ---- how a merge ends
 
--- that source k has ended behind n rounds, and another one hasn't
+-- Source k has ended after n rounds, and another one hasn't.
 abbrev pub length_refused : ℕ → ℕ → Stop
 length_refused n k = Refused (Merge LENGTH k 0) (places.Picture n)
 
--- What is told behind rounds that are written as these plans: what ends a stream; that it has ended; and of a round what bars it, by the
+-- What is reported after rounds that are written as these plans: what ends a stream; that it has ended; and what bars a round, by the
 -- rules and the limits of what is written.
 abbrev pub merge_telling : List Corner → Option ℕ → List Plan → Telling
 merge_telling corners level done = record {
@@ -68,19 +68,20 @@ merge_telling corners level done = record {
   of_round = λ n round stop. (r : Refusal) × IsBarred corners level round done r × (stop ≡ Refused r (places.Picture n));
 }
 
--- It ends so behind those rounds.
+-- The merge ends so after those rounds.
 abbrev pub EndsWritten : List Corner → Option ℕ → List Stream → List Plan → Outcome → Type 0
 EndsWritten corners level ss done end = AreRoundsWritten corners level ss done × EndsIn (merge_telling corners level done) ss (length done) end
 
--- It ends once: behind the same rounds, which are written in one way.
+-- A merge ends once: after the same rounds, which are written in one way.
 abbrev pub EndsOnce : Type 0
 EndsOnce = (corners : List Corner) (level : Option ℕ) (ss : List Stream) (done other : List Plan) (a b : Outcome)
     → 0 < length ss → EndsWritten corners level ss done a → EndsWritten corners level ss other b → (done ≡ other) × (a ≡ b)
 
 -- ---- `check merge`
 
--- What it did to its sources and to `out`, by what came of it: it says how many rounds could be written, and writes that line alone. A failed
--- read of source k ends it: round n isn't whole, where n pictures of that source are seen, and those before could be written.
+-- What `check merge` did to its sources and to `out`, by its outcome. It reports how many rounds could be written, and writes only that
+-- line. A failed read of source k ends it: round n isn't complete, n pictures of that source are seen, and the rounds before could be
+-- written.
 abbrev pub ChecksMergeBy : {A K : Type 0} → Readers → List Corner → Sources A → Change K → Outcome → Type 0
 ChecksMergeBy R corners sources out (Ok _) =
     OfEachSource sources IsReadOut × HasNoFault out
@@ -100,7 +101,7 @@ ChecksMergeBy R corners sources out (Err _) = ⊥
 
 -- ---- `merge`
 
--- A write failed: all of these bytes were gained, and behind them a front of those, and not all of it.
+-- A write failed: all of these bytes were gained, and after them a proper prefix of those.
 pub record GainsInto {K : Type 0} (out : Change K) (done next : List ℕ) : Type 0 where
   pub failed : HasFault out
   pub front : List ℕ
@@ -108,13 +109,14 @@ pub record GainsInto {K : Type 0} (out : Change K) (done next : List ℕ) : Type
   pub short : length front < length next
   pub gained : Appends (out.bytes out.old) (out.bytes out.new) (done ++ front)
 
--- `out` gained what is written of these rounds, and it is read again as the merge of these pictures of the sources
+-- `out` gained what is written of these rounds, and it is read again as the merge of these pictures of the sources.
 abbrev pub GainsMerge : {K : Type 0} → Readers → List Corner → List (List Picture) → List Plan → Change K → Type 0
 GainsMerge R corners sources done out = Gains out (bytes_of done) × IsMergedAgain R corners sources (bytes_of done)
 
--- What it did to them: it writes all rounds before it ends, and they are read again, with status 0 as the merge of all pictures of the
--- sources, and else of their first ones. Behind a failed read of source k it has written those before round n, where n pictures of that
--- source are seen; behind a failed write those before a round, and a front of that; for want of memory the first ones.
+-- What `merge` did to them. It writes all rounds before it ends, and they are read again: with status 0 as the merge of all pictures of
+-- the sources, and otherwise of their first ones. After a failed read of source k it has written the rounds before round n, and n
+-- pictures of that source are seen. After a failed write it has written those before a round, and a prefix of that round. After lack of
+-- memory it has written the first ones.
 abbrev pub MergesBy : {A K : Type 0} → Readers → List Corner → Option ℕ → Sources A → Change K → Outcome → Type 0
 MergesBy R corners level sources out (Ok _) =
     OfEachSource sources IsReadOut × HasNoFault out

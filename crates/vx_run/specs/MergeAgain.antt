@@ -7,7 +7,7 @@ use Rattle.vx_frame.specs.declared.corner.Corner.{Corner}
 use Rattle.vx_again.specs.Whole.{IsReadAsMerge}
 use Rattle.vx_run.specs.Rounds.{Stream}
 
--- some bytes of a source tell this stream
+-- The stream is that of some bytes of a source.
 abbrev pub IsToldBy : Readers → Stream → Type 0
 IsToldBy R s = (b : List ℕ) × AreSourcePictures R b s.pictures s.ending
 

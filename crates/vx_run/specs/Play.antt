@@ -1,4 +1,4 @@
--- What `play` finds in the rounds of regions, and what it writes. The pictures of a region are those of its files, one file behind another.
+-- What `play` finds in the rounds of regions, and what it writes. The pictures of a region are those of its files, one after another.
 -- Our own.
 use Rattle.std.specs.Prelude.{◌≡◌, ◌⊎◌, ℕ, ◌+◌, ◌<◌, ◌≤◌, ◌==◌, ◌&&◌, nat_lt, Bool, cond, List, [], ◌∷◌, ◌++◌, length, map}
 use Rattle.std.specs.Prelude.{get_or, Option, None, is_none, option_map, unwrap_or, Ok, Err, IfErr}
@@ -37,11 +37,11 @@ use Rattle.vx_run.specs.Rounds.{IsRead, IsReadOut, IsReadFor, Sees, most_sources
 abbrev pub is_corner : Corner → Corner → Bool
 is_corner c d = (c.x == d.x) && (c.y == d.y)
 
--- the place of a corner among others, or how many there are
+-- The place of a corner among others, or how many there are.
 abbrev pub region_at_corner : List Corner → Corner → ℕ
 region_at_corner corners c = position_or_len (is_corner c) corners
 
--- each corner once, in the order in which they come first
+-- Each corner once, in the order in which they come first.
 abbrev pub with_corner : List Corner → Corner → List Corner
 with_corner corners c = cond (region_at_corner corners c == length corners) (corners ++ c ∷ []) corners
 
@@ -58,14 +58,14 @@ file_regions placings = map (region_at_corner (region_corners placings)) (corner
 
 -- ---- the pictures of a region
 
--- what is told of file j
+-- The stream of file j.
 abbrev pub no_stream : Stream
 no_stream = record { pictures = []; ending = None }
 
 abbrev pub file_in : List Stream → ℕ → Stream
 file_in files j = get_or files j no_stream
 
--- The pictures of each of a region's files, up to the first file that is refused; and that file, with what ends it.
+-- The pictures of each of a region's files, up to the first file that is refused; and that file, with its ending.
 abbrev pub pictures_in : List Stream → List ℕ → List (List Picture)
 pictures_in files [] = []
 pictures_in files (j ∷ js) = (file_in files j).pictures ∷ cond (is_none (file_in files j).ending) (pictures_in files js) []
@@ -74,31 +74,31 @@ abbrev pub refused_in : List Stream → List ℕ → Option (ℕ × Ending)
 refused_in files [] = None
 refused_in files (j ∷ js) = option_or (option_map (λ e. (j, e)) (file_in files j).ending) (refused_in files js)
 
--- A region's pictures are those of its files, one file behind another.
+-- A region's pictures are those of its files, one file after another.
 abbrev pub region_stream : List Stream → List ℕ → Stream
 region_stream files js = record { pictures = one_behind_another [] (pictures_in files js); ending = option_map (λ x. x.1) (refused_in files js) }
 
 abbrev pub refused_file : List Stream → List ℕ → ℕ
 refused_file files js = unwrap_or (option_map (λ x. x.0) (refused_in files js)) 0
 
--- those of so many regions
+-- The streams of `count` regions.
 abbrev pub region_streams : ℕ → List ℕ → List Stream → List Stream
 region_streams count regions files = map (λ k. region_stream files (files_of_region regions k)) (range_with_len 0 count)
 
 -- ---- rounds that are played
 
--- Round n is joined behind others: it isn't the first one, and some region's picture is the first of its file.
+-- Round n is joined to those before: it isn't the first one, and some region's picture is the first of its file.
 abbrev pub begins_in : List ℕ → List Stream → ℕ → ℕ → Bool
 begins_in regions files n k = begins_file 0 (pictures_in files (files_of_region regions k)) n
 
 abbrev pub is_join : ℕ → List ℕ → List Stream → ℕ → Bool
 is_join count regions files n = nat_lt 0 n && list_any (begins_in regions files n) (range_with_len 0 count)
 
--- the pictures of a round that is joined are behind an end of sequence
+-- The pictures of a joined round come after an end of sequence.
 abbrev pub marked : Bool → List Parts → List Parts
 marked joins round = cond joins (map after_end_of_sequence round) round
 
--- its pictures may begin there if it is joined, it breaks no rule, and it is written so behind others, within the limits
+-- Its pictures may begin there if it is joined, it breaks no rule, and it is written so after others, within the limits.
 pub record PassesWhere (joins : Bool) (corners : List Corner) (level : Option ℕ) (round : List Parts) (done : List Plan) (p : Plan) : Type 0 where
   pub starts : JudgesJoin joins corners round None
   pub passes : Passes corners level round done p
@@ -111,7 +111,7 @@ ArePlayed corners level joins ss (p ∷ done) =
     × PassesWhere (joins (length done)) corners level (marked (joins (length done)) round) done p)
     × ArePlayed corners level joins ss done
 
--- What is told behind them: what ends a file; that a region has ended; and of a round what bars it.
+-- What is reported after them: what ends a file; that a region has ended; and what bars a round.
 abbrev pub play_telling : List Corner → Option ℕ → (ℕ → Bool) → (ℕ → ℕ) → List Plan → Telling
 play_telling corners level joins refused done = record {
   of_stream = λ k e. Refused e.refusal (places.Unit (refused k) e.units);
@@ -119,26 +119,26 @@ play_telling corners level joins refused done = record {
   of_round = λ n round stop. (r : Refusal) × IsBarredWhere (joins n) corners level (marked (joins n) round) done r × (stop ≡ Refused r (places.Picture n));
 }
 
--- The rounds of the regions of these files are played so,
+-- The rounds of the regions of these files are played so.
 abbrev pub ArePlayedOf : List Corner → Option ℕ → List ℕ → List Stream → List Plan → Type 0
 ArePlayedOf corners level regions files done =
     ArePlayed corners level (is_join (length corners) regions files) (region_streams (length corners) regions files) done
 
--- and it ends so behind them.
+-- Playing ends so after them.
 abbrev pub EndsPlayed : List Corner → Option ℕ → List ℕ → List Stream → List Plan → Outcome → Type 0
 EndsPlayed corners level regions files done end =
     ArePlayedOf corners level regions files done
     × EndsIn (play_telling corners level (is_join (length corners) regions files) (λ k. refused_file files (files_of_region regions k)) done)
     (region_streams (length corners) regions files) (length done) end
 
--- It ends once: behind the same rounds, which are written in one way.
+-- Playing ends once: after the same rounds, which are written in one way.
 abbrev pub PlayEndsOnce : Type 0
 PlayEndsOnce = (corners : List Corner) (level : Option ℕ) (regions : List ℕ) (files : List Stream) (done other : List Plan) (a b : Outcome)
     → 0 < length corners → EndsPlayed corners level regions files done a → EndsPlayed corners level regions files other b → (done ≡ other) × (a ≡ b)
 
 -- ---- rounds that are read again
 
--- The first n pictures of each region as they are played, the latest first: behind an end of sequence where their round is joined; and all.
+-- The first n pictures of each region as they are played, the latest first: after an end of sequence if their round is joined; and all.
 abbrev pub played_first : ℕ → List ℕ → List Stream → ℕ → List (List Picture)
 played_first count regions files n = map (played (is_join count regions files)) (map (first_pictures n) (region_streams count regions files))
 
@@ -154,32 +154,32 @@ PlayedIsReadAgain =
 
 -- ---- what was read of files
 
--- nothing was done to any of these files
+-- Nothing was done to any of these files.
 abbrev pub AreUnread : {A : Type 0} → Sources A → List ℕ → Type 0
 AreUnread sources [] = Unit {0}
 AreUnread sources (j ∷ js) = IsUntouched (source_at sources j) × AreUnread sources js
 
--- it was read to its end, and has these pictures
+-- It was read to its end, and has these pictures.
 abbrev pub IsOut : {A : Type 0} → Readers → Change A → List Picture → Type 0
 IsOut R c ps = IsReadOut c × WhereTold R c (λ qs ending. (qs ≡ ps) × (ending ≡ None))
 
--- all of these files were
+-- All of these files were read to their ends, and have these pictures.
 abbrev pub AreOut : {A : Type 0} → Readers → Sources A → List ℕ → List (List Picture) → Type 0
 AreOut R sources [] passed = passed ≡ []
 AreOut R sources (j ∷ js) [] = ⊥
 AreOut R sources (j ∷ js) (ps ∷ passed) = IsOut R (source_at sources j) ps × AreOut R sources js passed
 
--- file j comes behind files that were, and nothing was done to those behind it
+-- File j comes after files that were, and nothing was done to those after it.
 abbrev pub IsBehind : {A : Type 0} → Readers → Sources A → ℕ → List ℕ → List (List Picture) → Type 0
 IsBehind R sources j [] passed = ⊥
 IsBehind R sources j (i ∷ js) [] = (i ≡ j) × AreUnread sources js
 IsBehind R sources j (i ∷ js) (ps ∷ passed) = IsOut R (source_at sources i) ps × IsBehind R sources j js passed
 
--- how many pictures these are
+-- How many pictures these are.
 abbrev pub count_of : List (List Picture) → ℕ
 count_of passed = length (one_behind_another [] passed)
 
--- the n-th picture of a region is the last that was taken of file j, behind files that were read out; and no more was read than for it
+-- Picture n of a region is the last that was taken of file j, after files that were read to their ends; and no more was read than for it.
 pub record EndsInFile {A : Type 0} (R : Readers) (sources : Sources A) (n : ℕ) (js : List ℕ) : Type 0 where
   pub j : ℕ
   pub m : ℕ
@@ -188,23 +188,23 @@ pub record EndsInFile {A : Type 0} (R : Readers) (sources : Sources A) (n : ℕ)
   pub read : IsReadFor R (m + 1) (source_at sources j)
   pub count : n ≡ count_of passed + (m + 1)
 
--- The files of a region were read for its first n pictures, and no further;
+-- The files of a region were read for its first n pictures, and no further.
 abbrev pub ArePlayedFor : {A : Type 0} → Readers → Sources A → ℕ → List ℕ → Type 0
 ArePlayedFor R sources n js = ((n ≡ 0) × AreUnread sources js) ⊎ EndsInFile R sources n js
 
--- they were read for round n: for n + 1 pictures; or to their ends, where they have n.
+-- They were read for round n: for n + 1 pictures; or to their ends, if they have n.
 abbrev pub ArePlayedInRound : {A : Type 0} → Readers → Sources A → ℕ → List ℕ → Type 0
 ArePlayedInRound R sources n js =
     ArePlayedFor R sources (n + 1) js ⊎ ((passed : List (List Picture)) × AreOut R sources js passed × (n ≡ count_of passed))
 
--- Where a file of region k ends the command in round n, those of the regions before it were read for that round, and those of the regions
--- behind it for the rounds before it.
+-- If a file of region k ends the command in round n, then the files of the regions before it were read for that round, and those of later
+-- regions for the rounds before it.
 abbrev pub OthersArePlayed : {A : Type 0} → Readers → Sources A → ℕ → List ℕ → ℕ → ℕ → Type 0
 OthersArePlayed R sources count regions n k =
     (i : ℕ) → i < count
     → (i < k → ArePlayedInRound R sources n (files_of_region regions i)) × (k < i → ArePlayedFor R sources n (files_of_region regions i))
 
--- File j of region k does: it comes behind others, with so many pictures of it before round n.
+-- File j of region k ends the command: it comes after others, and m pictures of it come before round n.
 pub record ComesAt {A : Type 0} (R : Readers) (sources : Sources A) (count : ℕ) (regions : List ℕ) (n k j m : ℕ) : Type 0 where
   pub within : k < count
   pub passed : List (List Picture)
@@ -212,7 +212,8 @@ pub record ComesAt {A : Type 0} (R : Readers) (sources : Sources A) (count : ℕ
   pub so_far : n ≡ count_of passed + m
   pub others : OthersArePlayed R sources count regions n k
 
--- How far files were read where this place is refused in round n: it is one of a file; or it is the round, and all were read for that.
+-- How far files were read if this place is refused in round n: the place is one of a file; or it is the round, and all were read for
+-- that.
 pub data ArePlayedTo {A : Type 0} (R : Readers) (sources : Sources A) (count : ℕ) (regions : List ℕ) (n : ℕ) (place : Place) : Type 0 where
   at_file : (k j m units : ℕ) → ComesAt R sources count regions n k j m → IsRead (source_at sources j) → place ≡ places.Unit j units
       → ArePlayedTo R sources count regions n place
@@ -220,10 +221,10 @@ pub data ArePlayedTo {A : Type 0} (R : Readers) (sources : Sources A) (count : �
 
 -- ---- what it did
 
--- What it did to its files and to `out`, by what came of it: it writes all rounds before it ends, and they are read again, with status 0 as
--- the merge of all pictures of the regions as they are played, and else of their first ones. Behind a failed read of file j of region k it
--- has written those before round n, where n pictures of that region are seen; behind a failed write those before a round, and a front of
--- that; for want of memory the first ones.
+-- What `play` did to its files and to `out`, by its outcome. It writes all rounds before it ends, and they are read again: with status 0
+-- as the merge of all pictures of the regions as they are played, and otherwise of their first ones. After a failed read of file j of
+-- region k it has written the rounds before round n, and n pictures of that region are seen. After a failed write it has written those
+-- before a round, and a prefix of that round. After lack of memory it has written the first ones.
 abbrev pub PlaysBy : {A K : Type 0} → Readers → List Corner → Option ℕ → List ℕ → Sources A → Change K → Outcome → Type 0
 PlaysBy R corners level regions sources out (Ok _) =
     OfEachSource sources IsReadOut × HasNoFault out
@@ -252,18 +253,19 @@ PlaysBy R corners level regions sources out (Err _) = ⊥
 
 -- ---- how many
 
--- how many files there may be
+-- How many files there may be.
 abbrev pub most_files : ℕ
 most_files = 256
 
 abbrev pub too_many_files : Outcome
 too_many_files = Err (Refused (Limit TOO_MANY_FILES) places.Words)
 
--- it isn't done, for this or for want of memory, and nothing is read or written
+-- It isn't done, for this reason or for lack of memory, and nothing is read or written.
 abbrev pub IsLeft : {A K : Type 0} → Sources A → Change K → Outcome → Outcome → Type 0
 IsLeft sources out outcome limit = ((outcome ≡ limit) ⊎ (outcome ≡ Err NoMemory)) × AreUntouched sources × IsUntouched out
 
--- Where there are more regions than sources may be; and else where there are more files. Else it is so by the readers of H.266.
+-- There are more regions than there may be sources; or otherwise more files than there may be; or otherwise it is so by the readers of
+-- H.266.
 pub record Plays {A K : Type 0} (corners : List Corner) (level : Option ℕ) (regions : List ℕ) (sources : Sources A) (out : Change K)
     (outcome : Outcome) : Type 0 where
   pub stop : IfErr outcome IsOfCommand

@@ -1,4 +1,5 @@
--- What `run` does to its sources and to its sinks, by the command that its words ask for. Our own.
+-- What `run` does to its sources and to its sinks, by the command that its arguments ask for. Our own. The clause `ends` of `run` is
+-- `Runs`.
 use Rattle.std.specs.Prelude.{◌≡◌, ℕ, List, None, IsSomeAnd, Err}
 use Rattle.vx_explain.specs.Explained.{explanation}
 use Rattle.vx_run.specs.declared.stop.Stop.TheVariants.{NotUnderstood}
@@ -13,7 +14,7 @@ use Rattle.vx_run.specs.Show.{Shows}
 use Rattle.vx_run.specs.Trial.{Trials}
 use Rattle.vx_run.specs.Verify.{spots_of, Verifies}
 
--- what a command did to its sources and to `out`, by what came of it
+-- What a command did to its sources and to `out`, by its outcome.
 abbrev pub Does : {A K : Type 0} → Command → Sources A → Change K → Outcome → Type 0
 Does (show fields file) sources out outcome = Shows fields (source_at sources 0) out outcome
 Does (extract tid level index file) sources out outcome = Extracts (task_of tid level index) (source_at sources 0) out outcome
@@ -27,11 +28,11 @@ Does help sources out outcome = AreUntouched sources × Writes help_text out out
 Does version sources out outcome = AreUntouched sources × Writes version_text out outcome
 Does (explain word) sources out outcome = AreUntouched sources × IsSomeAnd (explanation word) (λ text. Writes text out outcome)
 
--- the command that the words ask for was done or stopped; where they ask for none, nothing was read or written
+-- The command that the arguments ask for was done or stopped; if they ask for none, nothing was read or written.
 pub record Performs {A K : Type 0} (words : List (List ℕ)) (sources : Sources A) (out : Change K) (outcome : Outcome) : Type 0 where
   pub command : (command : Command) → AskFor words command → Does command sources out outcome
   pub other : ¬ IsUnderstood words → (outcome ≡ Err NotUnderstood) × AreUntouched sources × IsUntouched out
 
--- what came of the command: what it did to its sources and to `out`, and the status and the line on `err` that tell it
+-- The outcome of the command: what it did to its sources and to `out`, and the status and the line on `err` that report it.
 abbrev pub Runs : {A K E : Type 0} → List (List ℕ) → Sources A → Change K → ℕ → Change E → Type 0
 Runs words sources out status err = (outcome : Outcome) × Performs words sources out outcome × ExitsWith outcome status err

@@ -27,21 +27,21 @@ use Rattle.vx_run.specs.Change.{Change, HasNoFault, HasFault, GivesFront, Gains,
 use Rattle.vx_run.specs.Conclusion.{Outcome, IsOfCommand}
 use Rattle.vx_assemble.specs.Feed.{seen_of}
 
--- the bytes of a source that are looked at are all
+-- All bytes of a source are read.
 abbrev pub is_within_limit : List ℕ → Bool
 is_within_limit b = nat_le (length b) source_limit
 
--- the line of a unit whose first byte stands at this place
+-- The line of a unit whose first byte is at this place.
 unfoldable pub shown_line : List ℕ → ℕ → List ℕ
 shown_line unit place = unit_text (header_of unit) place (length unit)
 
--- the line of a unit of these bytes
+-- The line of a unit of these bytes.
 abbrev pub line_of_unit : List ℕ → UnitPlace → List ℕ
 line_of_unit b u = shown_line (unit_bytes b u) u.start
 
 -- ---- the lines of a unit that is read
 
--- the line of a set
+-- The line of a set.
 unfoldable pub set_lines : Reading → List ℕ
 set_lines (vps_read v) = set_text (vps_numbers v)
 set_lines (sps_read s) = set_text (sps_numbers s)
@@ -49,7 +49,7 @@ set_lines (pps_read p) = set_text (pps_numbers p)
 set_lines (aps_read a) = set_text (Aps a.kind a.id)
 set_lines _ = []
 
--- what is shown of the n-th picture, from 0
+-- The numbers shown of picture n, from 0.
 abbrev pub numbers_shown : ℕ → Picture → PictureNumbers
 numbers_shown n p = record {
   picture = n;
@@ -59,25 +59,25 @@ numbers_shown n p = record {
   subpictures = subpics_of p.begun.sps;
 }
 
--- the line of the picture that this reading completes behind those before it, the latest first
+-- The line of the picture that this reading completes after those before it, the latest first.
 unfoldable pub picture_lines : Reading → List Reading → List ℕ
 picture_lines r before = flat_map (λ p. picture_text (numbers_shown (length (pictures before)) p)) (completed r before)
 
--- that of the unit, of the set that it is, and of the picture that it completes
+-- The lines of the unit, of the set that it is, and of the picture that it completes.
 abbrev pub unit_lines : List ℕ → UnitPlace → Reading → List Reading → List ℕ
 unit_lines b u r before = line_of_unit b u ++ (set_lines r ++ picture_lines r before)
 
 -- ---- the lines of units
 
--- what is told besides of a unit behind those before it, be it read or refused
+-- The further lines for a unit after those before it, whether it is read or refused.
 abbrev pub Teller : Type 0
 Teller = List Reading → List ℕ → List ℕ
 
--- nothing
+-- No further lines.
 abbrev pub tells_nothing : Teller
 tells_nothing before unit = []
 
--- the field at which a rule is broken, where it is one of syntax
+-- The field at which a rule is broken, if it is a rule of syntax.
 abbrev pub refused_field : Refusal → Option ℕ
 refused_field (Syntax field bit cause) = Some field
 refused_field _ = None
@@ -86,32 +86,32 @@ abbrev pub field_of : Result Reading Refusal → Option ℕ
 field_of (Ok r) = None
 field_of (Err refusal) = refused_field refusal
 
--- the line of the fields that it spells, with the field at which it is refused
+-- The line of the fields that it spells, with the field at which it is refused.
 abbrev pub tells_fields : (R : Readers) → AreOfH266 R → Teller
 tells_fields R h before unit = fields_text (length before) (unit_fields R h before unit) (field_of (reads R before unit))
 
--- by whether the fields are asked for
+-- The further lines with and without `--fields`.
 abbrev pub teller : (fields : Bool) → (R : Readers) → AreOfH266 R → Teller
 teller true R h = tells_fields R h
 teller false R h = tells_nothing
 
--- the lines of a unit that is read, with what is told besides
+-- The lines of a unit that is read, with the further lines.
 abbrev pub told_lines : Teller → List ℕ → UnitPlace → Reading → List Reading → List ℕ
 told_lines T b u r before = unit_lines b u r before ++ T before (unit_bytes b u)
 
--- what a reading gives, and where a rule is broken what is told all the same
+-- The lines of a reading; or the further lines if a rule is broken.
 abbrev pub where_read : Result Reading Refusal → (Reading → List ℕ) → List ℕ → List ℕ
 where_read (Ok r) lines told = lines r
 where_read (Err refusal) lines told = told
 
--- the lines of these units, each read behind those before it, up to the first that breaks a rule, of which is told what is told besides
+-- The lines of these units, each read after those before it, up to the first that breaks a rule, which has the further lines only.
 abbrev pub lines_behind : Readers → Teller → List ℕ → List Reading → List UnitPlace → List ℕ
 lines_behind R T b before [] = []
 lines_behind R T b before (u ∷ units) =
     where_read (reads R before (unit_bytes b u)) (λ r. told_lines T b u r before ++ lines_behind R T b (r ∷ before) units)
     (T before (unit_bytes b u))
 
--- what is written of these units of a source's bytes
+-- The lines written for these units of a source's bytes.
 abbrev pub shown_lines : Readers → Teller → List ℕ → List UnitPlace → List ℕ
 shown_lines R T b units = lines_behind R T (seen_of b) [] units
 
@@ -124,29 +124,29 @@ pub record IsShown (R : Readers) (b : List ℕ) (units : List UnitPlace) (ending
   pub stream : IsStream (seen_of b) (is_within_limit b) units framing
   pub ends : ending ≡ ending_by (is_within_limit b) framing (read_on R [] (units_at (seen_of b) units))
 
--- a refusal is told at its place
+-- A refusal is reported at its place.
 pub record IsToldAt (ending : Option Ending) (r : Refusal) (place_told : Place) : Type 0 where
   pub first : Ending
   pub is : ending ≡ Some first
   pub refusal : r ≡ first.refusal
   pub place : place_told ≡ places.Unit 0 first.units
 
--- of the bytes that a source tells, their units and their ending
+-- For a source with known bytes: this holds of their units and their ending.
 abbrev pub WhereKnown : {A : Type 0} → Readers → Change A → (List ℕ → List UnitPlace → Option Ending → Type 0) → Type 0
 WhereKnown R source P =
     (b : List ℕ) (units : List UnitPlace) (ending : Option Ending)
     → source.bytes source.old ≡ Some b → IsShown R b units ending → P b units ending
 
--- how many bytes a read asks for
+-- How many bytes a read asks for.
 abbrev pub read_len : ℕ
 read_len = 65536
 
--- how many bytes show the end of a unit, where 00 00 00 or 00 00 01 stands behind it
+-- How many bytes show the end of a unit, if 00 00 00 or 00 00 01 comes after it.
 abbrev pub shown_by : UnitPlace → ℕ
 shown_by u = u.end + 3
 
--- A read failed: `out` gained the lines of exactly the units whose end is seen in what the source has given, however
--- that goes on, and no rule is broken there.
+-- A read failed. `out` gained the lines of exactly the units that are complete in what the source has given, however it goes on, and no
+-- rule is broken there.
 pub record ShowsSeen {A K : Type 0} (R : Readers) (T : Teller) (source : Change A) (out : Change K) : Type 0 where
   pub given : List ℕ
   pub units : List UnitPlace
@@ -156,8 +156,8 @@ pub record ShowsSeen {A K : Type 0} (R : Readers) (T : Teller) (source : Change 
   pub read : read_on R [] (units_at given units) ≡ all_read before
   pub lines : Gains out (lines_behind R T given [] units)
 
--- A write failed: `out` gained a front of the lines of the units up to one, the last that was looked at. The source has ended,
--- or has given fewer bytes past the place where that unit's end is seen than a read asks for.
+-- A write failed. `out` gained a prefix of the lines of the units up to one, the last that was read. The source has ended, or has given
+-- fewer bytes past the place that shows the end of that unit than a read asks for.
 pub record ShowsFront {A K : Type 0} (R : Readers) (T : Teller) (source : Change A) (out : Change K) : Type 0 where
   pub given : List ℕ
   pub before : List UnitPlace
@@ -169,8 +169,8 @@ pub record ShowsFront {A K : Type 0} (R : Readers) (T : Teller) (source : Change
   pub whole : ended ≡ true → IsAtEnd (source.bytes source.new)
   pub near : ended ≡ false → length given < shown_by last + read_len
 
--- What `show` did to its source and to `out`, by what came of it. Where it was done or refused, `out` gained the lines of
--- the units before the ending, and for want of memory those of the first of them, each with all its lines.
+-- What `show` did to its source and to `out`, by its outcome. If it is done or refused, `out` gained the lines of the units before the
+-- ending. After lack of memory it gained those of the first of them, each with all its lines.
 abbrev pub ShowsBy : {A K : Type 0} → Readers → Teller → Change A → Change K → Outcome → Type 0
 ShowsBy R T source out (Ok _) =
     HasNoFault source × HasNoFault out × GivesFront source × IsAtEnd (source.bytes source.new)
@@ -187,6 +187,6 @@ ShowsBy R T source out (Err NoMemory) =
     × WhereKnown R source (λ b units ending. (n : ℕ) × Gains out (shown_lines R T b (take n units)))
 ShowsBy R T source out (Err _) = ⊥
 
--- that is so by the readers of H.266, with the fields where they are asked for; and the words were understood
+-- That holds for the readers of H.266, with the fields if they are asked for, and the arguments were understood.
 abbrev pub Shows : {A K : Type 0} → (fields : Bool) → Change A → Change K → Outcome → Type 0
 Shows fields source out outcome = IfErr outcome IsOfCommand × ((R : Readers) (h : AreOfH266 R) → ShowsBy R (teller fields R h) source out outcome)

@@ -1,4 +1,4 @@
--- What `trial` does: it makes streams from a number, merges them, extracts each region, and tells what it counted. Our own.
+-- What `trial` does: it makes streams from a number, merges them, extracts each region, and reports the counts. Our own.
 use Rattle.std.specs.Prelude.{ℕ, List, [], ◌∷◌, codes, decimal, Ok, Err}
 use Rattle.std.specs.List.{concat}
 use Rattle.vx_pic.specs.H266.{AreOfH266}
@@ -18,14 +18,14 @@ trial_text t = concat
     ∷ codes " weight " ∷ decimal t.weight
     ∷ codes "\n" ∷ [])
 
--- Nothing stops it but a failed write of that line, and want of memory, for which it writes nothing: no rule is broken, and no read fails.
+-- Only a failed write of that line stops it, or lack of memory, in which case it writes nothing. No rule is broken, and no read fails.
 abbrev pub EndsTrial : {K : Type 0} → Change K → Outcome → Type 0
 EndsTrial out (Ok _) = HasNoFault out
 EndsTrial out (Err WriteFault) = HasFault out
 EndsTrial out (Err NoMemory) = IsUntouched out
 EndsTrial out (Err _) = ⊥
 
--- It wrote the line of the merge and the extractions, or a front of it.
+-- It wrote the line of the merge and the extractions, or a prefix of it.
 abbrev pub TellsTrial : {K : Type 0} → Readers → (seed sources pictures : ℕ) → Change K → Outcome → Type 0
 TellsTrial R seed sources pictures out (Ok _) = (t : Tally) × IsTally R seed sources pictures t × Gains out (trial_text t)
 TellsTrial R seed sources pictures out (Err WriteFault) = (t : Tally) × IsTally R seed sources pictures t × GainsFront out (trial_text t)

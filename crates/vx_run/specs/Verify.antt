@@ -1,5 +1,5 @@
--- What `verify merge` finds in the rounds of a finished stream and its sources. File 0 is the finished stream, and file k + 1 is source k.
--- Our own.
+-- What `verify merge` finds in the rounds of a finished stream and its sources. File 0 is the finished stream, and file k + 1 is source
+-- k. Our own.
 use Rattle.std.specs.Prelude.{◌≡◌, ℕ, ◌<◌, List, [], ◌∷◌, length, map, Ok, Err, codes, decimal}
 use Rattle.std.specs.List.{concat}
 use Rattle.vx_pic.specs.Rules.{Readers}
@@ -16,27 +16,27 @@ use Rattle.vx_run.specs.Grammar.{Placing}
 use Rattle.vx_run.specs.Rounds.{Stream, IsRound, NoneRefused, Telling, EndsIn, stream_refused, WhereAllTold, OfEachSource, OfAtMost}
 use Rattle.vx_run.specs.Rounds.{IsRead, IsReadOut, IsReadInRound, OthersAreRead, AreReadToSource, Sees}
 
--- the places of the regions that words place files in
+-- The places of the regions in which arguments place files.
 abbrev pub spot_of : Placing → Spot
 spot_of p = record { x = p.x; y = p.y }
 
 abbrev pub spots_of : List Placing → List Spot
 spots_of placings = map spot_of placings
 
--- this holds of the finished stream's picture of a round, and of those of the sources
+-- This holds of the finished stream's picture of a round, and of those of the sources.
 abbrev pub OfRound : (Parts → List Parts → Type 0) → List Parts → Type 0
 OfRound P [] = ⊥
 OfRound P (finished ∷ round) = P finished round
 
--- the first n rounds are there, and each is verified
+-- The first n rounds are there, and each is verified.
 abbrev pub AreVerified : List Spot → List Stream → ℕ → Type 0
 AreVerified spots ss n = (r : ℕ) → r < n → (round : List Parts) × IsRound ss r round × OfRound (IsVerified spots) round
 
--- that file k has ended behind n rounds, and another one hasn't (C5)
+-- File k has ended after n rounds, and another one hasn't (C5).
 abbrev pub length_differs : ℕ → ℕ → Stop
 length_differs n k = Mismatched (Length k) n
 
--- What is told: what ends a file; that one has ended; and of a round why it isn't verified (C1 to C4).
+-- What is reported: what ends a file; that one has ended; and why a round isn't verified (C1 to C4).
 abbrev pub verify_telling : List Spot → Telling
 verify_telling spots = record {
   of_stream = stream_refused;
@@ -44,7 +44,7 @@ verify_telling spots = record {
   of_round = λ n round stop. OfRound (λ finished sources. (m : Mismatch) × IsMismatch spots finished sources m × (stop ≡ Mismatched m n)) round;
 }
 
--- It ends so behind n rounds that are verified.
+-- The verification ends so after n verified rounds.
 abbrev pub EndsVerified : List Spot → List Stream → ℕ → Outcome → Type 0
 EndsVerified spots ss n end = AreVerified spots ss n × EndsIn (verify_telling spots) ss n end
 
@@ -57,9 +57,9 @@ VerifyEndsOnce = (spots : List Spot) (ss : List Stream) (n m : ℕ) (a b : Outco
 abbrev pub yes_text : ℕ → List ℕ
 yes_text n = concat (codes "yes pictures " ∷ decimal n ∷ codes "\n" ∷ [])
 
--- What it did to its sources and to `out`, by what came of it: it says how many rounds are verified where all are, and writes that line
--- alone. Where a round isn't verified, all files were read for that one and no further. A failed read of file k ends it: round n isn't whole,
--- where n pictures of that file are seen, and those before are verified.
+-- What `verify merge` did to its sources and to `out`, by its outcome. It reports how many rounds are verified if all are, and writes
+-- only that line. If a round isn't verified, all files were read for that one and no further. A failed read of file k ends it: round n
+-- isn't complete, n pictures of that file are seen, and those before are verified.
 abbrev pub VerifiesBy : {A K : Type 0} → Readers → List Spot → Sources A → Change K → Outcome → Type 0
 VerifiesBy R spots sources out (Ok _) =
     OfEachSource sources IsReadOut × HasNoFault out

@@ -1,2 +1,2 @@
--- Statements of laws, which are proved: nothing that a caller has to believe.
+-- Statements of laws, which are proved: no caller has to believe them.
 pub mod Status

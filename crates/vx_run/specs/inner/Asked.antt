@@ -1,4 +1,4 @@
--- The command that the program has read from its words.
+-- The command that the program has read from its arguments. Our own.
 use Rattle.vx_run.specs.declared.words.Command.{Command}
 use Rattle.vx_run.specs.declared.words.Command.TheVariants.{Show, Extract, CheckExtract, Merge, Play, CheckMerge, Verify, Trial, Help, Version, Explain}
 use Rattle.vx_run.specs.Grammar as grammar

@@ -1,4 +1,4 @@
--- The steps of `extract` and of `check extract`: the pictures that were taken, and what was written of them.
+-- The steps of `extract` and `check extract`: the pictures that were taken, and what was written of them. Our own.
 use Rattle.std.specs.Prelude.{◌≡◌, ℕ, ◌+◌, ◌<◌, ◌≤◌, nat_le, cond, Bool, true, false, List, ◌∷◌, length, map, Option, Some, None, Result, Ok, Err, OnOk, IfErr}
 use Rattle.std.specs.List.{AllByRecursion}
 use Rattle.std.specs.Io.KnownBytes.{Consumes, IsAtEnd}
@@ -51,19 +51,19 @@ pub record HasTakenOne {A : Type 0} (R : Readers) (source : Change A) (f : Feedi
   pub others : pictures earlier ≡ ps
   pub near : IsNearEnd taken.given taken.units
 
--- the extractor does this task
+-- The extractor does this task.
 pub record IsTask (t : Task) (x : Extracting) : Type 0 where
   pub target : x.target ≡ t.target
   pub level : x.level ≡ t.level
   pub tid : x.tid ≡ t.tid
 
--- the task that an extractor has
+-- The task that an extractor has.
 abbrev pub task_held : Extracting → Task
 task_held x = record { target = x.target; level = x.level; tid = x.tid }
 
 -- ---- one step
 
--- What became of a picture behind those that are written so, and behind n pictures in all, of a sink with these bytes and this count.
+-- What happened to a picture after those that are written so, and after n pictures in all, with a sink of these bytes and this count.
 abbrev pub ExtractsOne : Picture → List Plan → Extracting → Option (List ℕ) → Option (List ℕ) → ℕ → ℕ → ℕ → Outcome → Type 0
 ExtractsOne p done x bytes bytes' faults faults' n outcome = ComesOf (WritesPicture (parts_of p) done x bytes bytes' faults faults') n outcome
 
@@ -79,12 +79,12 @@ ChecksLatest tid q x n (Err stop) = ChecksOne q x n (Err stop)
 
 -- ---- step by step
 
--- each picture of units has a slice of each of its subpictures
+-- Each picture of units has a slice of each of its subpictures.
 abbrev pub HaveSlices : Readers → Type 0
 HaveSlices R = (units : List (List ℕ))
     → AllByRecursion (λ p. (k : ℕ) → k < subpics_of p.begun.sps → HasSlice k (parts_of p)) (pictures_of R units)
 
--- what is written of pictures that were taken, and break no rule, is read again
+-- What is written of taken pictures that break no rule is read again.
 abbrev pub TakenIsReadAgain : Readers → Task → Type 0
 TakenIsReadAgain R t =
     (g : List ℕ) (units : List UnitPlace) (readings : List Reading) (f : Feeding) → HasFed R f g units readings
@@ -92,7 +92,7 @@ TakenIsReadAgain R t =
     → (done : List Plan) → AreExtracted t.target t.level (map parts_of (at_most t.tid (pictures readings))) done
     → IsReadAgain R t (pictures readings) (written (units_written done))
 
--- n pictures were taken, and what is written of those that are kept
+-- n pictures were taken, and this is written of those that are kept.
 pub record HasExtracted {A K : Type 0} (R : Readers) (t : Task) (source : Change A) (out : Change K) (f : Feeding) (x : Extracting) (n : ℕ)
     : Type 0 where
   pub ps : List Picture
@@ -105,8 +105,8 @@ pub record HasExtracted {A K : Type 0} (R : Readers) (t : Task) (source : Change
   pub gained : Gains out (written (units_written done))
   pub again : IsReadAgain R t ps (written (units_written done))
 
--- What became of the next picture behind n pictures: it was written or left out; or there is none, and that is how `extract` ends, where
--- it is refused for want of a picture if n is 0; or `extract` is stopped.
+-- What happened to the next picture after n pictures. It was written or left out; or there is none, and `extract` ends, with the refusal
+-- of a stream without pictures if n is 0; or `extract` is stopped.
 abbrev pub ExtractsNext : {A K : Type 0} → Readers → Task → Change A → Change K → Feeding → Feeding → Extracting → ℕ
     → Result Bool Stop → Type 0
 ExtractsNext R t source out f f' x n (Ok true) = HasExtracted R t source out f' x (n + 1) × (n < f'.units) × (f.units < f'.units)
@@ -114,7 +114,7 @@ ExtractsNext R t source out f f' x n (Ok false) = (outcome : Outcome) → OnOk o
     → IfErr outcome (λ stop. (n ≡ 0) × (stop ≡ Refused (Extract NO_PICTURE) (places.Picture 0))) → ExtractsBy R t source out outcome
 ExtractsNext R t source out f f' x n (Err stop) = ExtractsBy R t source out (Err stop)
 
--- n pictures were taken, and k of them are kept
+-- n pictures were taken, and k of them are kept.
 pub record HasChecked {A : Type 0} (R : Readers) (t : Task) (source : Change A) (f : Feeding) (n k : ℕ) : Type 0 where
   pub ps : List Picture
   pub taken : HasTaken R source f ps
@@ -122,7 +122,7 @@ pub record HasChecked {A : Type 0} (R : Readers) (t : Task) (source : Change A) 
   pub count : n ≡ length ps
   pub kept : k ≡ length (at_most t.tid ps)
 
--- How many pictures are kept, or what `check extract` would do without writing.
+-- How many pictures are kept, or why `check extract` stops before it writes.
 abbrev pub CountsBy : {A : Type 0} → Readers → Task → Change A → Result ℕ Stop → Type 0
 CountsBy R t source (Ok k) =
     HasNoFault source × GivesFront source × IsAtEnd (source.bytes source.new)
@@ -134,8 +134,8 @@ CountsBy R t source (Err (ReadFault k)) = HasFault source × (k ≡ 0) × ((ps :
 CountsBy R t source (Err NoMemory) = HasNoFault source × GivesFront source
 CountsBy R t source (Err _) = ⊥
 
--- What became of the next picture behind n, of which k are kept: it breaks no rule, and is kept or not; or there is none, and so many are
--- kept, or it is refused for want of a picture; or `check extract` is stopped.
+-- What happened to the next picture after n, of which k are kept. It breaks no rule, and is kept or not; or there is none, and k are
+-- kept, or the stream is refused for having no picture; or `check extract` is stopped.
 abbrev pub ChecksNext : {A : Type 0} → Readers → Task → Change A → Feeding → Feeding → (n k : ℕ) → Result (Option Bool) Stop → Type 0
 ChecksNext R t source f f' n k (Ok (Some kept)) =
     HasChecked R t source f' (n + 1) (cond kept (k + 1) k) × (n < f'.units) × (k ≤ n) × (f.units < f'.units)

@@ -1,4 +1,4 @@
--- The steps of `merge` and `check merge`: the rounds that were checked or written.
+-- The steps of `merge` and `check merge`: the rounds that were checked or written. Our own.
 use Rattle.std.specs.Prelude.{◌≡◌, ℕ, ◌+◌, ◌<◌, List, ◌∷◌, length}
 use Rattle.std.specs.Prelude.{Option, Result, Ok, Err}
 use Rattle.vx_pic.specs.Readings.{Picture}
@@ -23,7 +23,7 @@ use Rattle.vx_run.specs.inner.Stopping.{ComesOf}
 
 -- ---- rounds
 
--- what `out` gained where these were checked, or written
+-- What `out` gained if these were checked, or written.
 abbrev pub Leaves : {K : Type 0} → Work → Change K → List Plan → Type 0
 Leaves Check out done = IsUntouched out
 Leaves Write out done = Gains out (bytes_of done)
@@ -57,18 +57,18 @@ TakesRounds R work corners level sources out (Err NoMemory) =
     × WhereAllTold R sources (λ ss. (done : List Plan) × AreRoundsWritten corners level ss done × Leaves work out done)
 TakesRounds R work corners level sources out (Err _) = ⊥
 
--- what came of a command whose rounds were taken so
+-- The outcome of a command whose rounds were taken so.
 abbrev pub outcome_of : Result ℕ Stop → Outcome
 outcome_of (Ok n) = Ok tt
 outcome_of (Err stop) = Err stop
 
--- a round of these pictures was checked or written, behind those that were
+-- A round of these pictures was checked or written, after the earlier ones.
 abbrev pub DoesRound : {K : Type 0} → Work → List Parts → List Plan → Merging → Change K → Result (Unit {0}) WriteError → Type 0
 DoesRound Check round done m out answer = IsUntouched out × ChecksRound round done m answer
 DoesRound Write round done m out answer =
     WritesOneRound round done m (out.bytes out.old) (out.bytes out.new) (out.faults out.old) (out.faults out.new) answer
 
--- round n was, and what came of it
+-- Round n was checked or written, with this outcome.
 abbrev pub TakesRound : {K : Type 0} → Work → List Parts → List Plan → Merging → Change K → ℕ → Outcome → Type 0
 TakesRound work round done m out n outcome = ComesOf (DoesRound work round done m out) n outcome
 

@@ -1,4 +1,5 @@
--- The steps of `play`: the files that each region is at, and the rounds that were written. Lists of pictures have the latest first.
+-- The steps of `play`: the file that each region is at, and the rounds that were written. Lists of pictures have the latest first.
+-- Our own.
 use Rattle.std.specs.Prelude.{◌≡◌, ◌≢◌, ◌⊎◌, ℕ, ◌+◌, ◌*◌, ◌^◌, ◌<◌, ◌≤◌, not, Bool, true, false, List, [], ◌∷◌, ◌++◌, length, map, get_or, slice_get, slice_index}
 use Rattle.std.specs.Prelude.{Option, Some, None, Result, Ok, Err}
 use Rattle.std.specs.List.{AllByRecursion}
@@ -39,25 +40,25 @@ pub record HasFound (all corners : List Corner) (regions : List ℕ) : Type 0 wh
 
 -- ---- one region
 
--- It is at file j, of which these pictures were taken, behind files that were read out; or it is behind all of its files.
+-- The region is at file j, of which these pictures were taken, after files that were read to their ends; or it is past all of its files.
 abbrev pub IsAt : {A : Type 0} → Readers → Sources A → List ℕ → Feeding → List (List Picture) → List Picture → Type 0
 IsAt R sources js f passed own =
     ((j : ℕ) × IsBehind R sources j js passed × Waits R (source_at sources j) f own) ⊎ (AreOut R sources js passed × (own ≡ []))
 
--- no more pictures than its files can have
+-- No more pictures than its files can have.
 pub record AreFew (passed : List (List Picture)) (own : List Picture) : Type 0 where
   pub own_few : length own ≤ 2 ^ 40
   pub passed_few : count_of passed ≤ length passed * 2 ^ 40
 
--- the same pictures in all
+-- The same pictures in all.
 abbrev pub SameIn : List (List Picture) → List Picture → List (List Picture) → List Picture → Type 0
 SameIn passed own more others = others ++ one_behind_another [] more ≡ own ++ one_behind_another [] passed
 
--- it stays at its file, or begins another one
+-- It stays at its file, or begins another one.
 abbrev pub StaysOrBegins : (was at : ℕ) (own others : List Picture) → Type 0
 StaysOrBegins was at own others = ((at ≡ was) × (others ≡ own)) ⊎ ((was < at) × (others ≡ []))
 
--- it went on from there, so far
+-- It went on from there, so far.
 pub record IsOn {A : Type 0} (R : Readers) (sources : Sources A) (js : List ℕ) (was at : ℕ) (f : Feeding) (passed : List (List Picture))
     (own : List Picture) : Type 0 where
   pub more : List (List Picture)
@@ -68,7 +69,7 @@ pub record IsOn {A : Type 0} (R : Readers) (sources : Sources A) (js : List ℕ)
   pub same : SameIn passed own more others
   pub stays : StaysOrBegins was at own others
 
--- it came to one more picture, of file j
+-- It advanced to one more picture, of file j.
 pub record Takes {A : Type 0} (R : Readers) (sources : Sources A) (js : List ℕ) (was at : ℕ) (f : Feeding) (passed : List (List Picture))
     (own : List Picture) : Type 0 where
   pub more : List (List Picture)
@@ -82,13 +83,13 @@ pub record Takes {A : Type 0} (R : Readers) (sources : Sources A) (js : List ℕ
   pub same : SameIn passed own more others
   pub stays : StaysOrBegins was at own others
 
--- it is behind all of its files
+-- It is past all of its files.
 pub record Ends {A : Type 0} (R : Readers) (sources : Sources A) (js : List ℕ) (passed : List (List Picture)) (own : List Picture) : Type 0 where
   pub more : List (List Picture)
   pub out : AreOut R sources js more
   pub same : one_behind_another [] more ≡ own ++ one_behind_another [] passed
 
--- or file j is refused, behind these of its pictures,
+-- File j is refused, after these of its pictures.
 pub record IsCut {A : Type 0} (R : Readers) (sources : Sources A) (js : List ℕ) (passed : List (List Picture)) (own : List Picture) (r : Refusal)
     (place : Place) : Type 0 where
   pub more : List (List Picture)
@@ -123,7 +124,7 @@ GoesOn R sources js was at f passed own (Err (ReadFault j)) = IsLost R sources j
 GoesOn R sources js was at f passed own (Err NoMemory) = AllRead sources js
 GoesOn R sources js was at f passed own (Err _) = ⊥
 
--- of a schedule: another region is where it was
+-- In a schedule, each other region is where it was.
 pub record SameBut (k : ℕ) (s s' : Scheduled) : Type 0 where
   pub regions : s'.regions ≡ s.regions
   pub last : s'.last ≡ s.last
@@ -136,7 +137,7 @@ abbrev pub IsPlaced : {A : Type 0} → Readers → Sources A → Scheduled → �
 IsPlaced R sources s k f passed own =
     IsAt R sources (files_of_region s.regions k) f passed own × AreFew passed own × (length passed ≡ slice_index s.gone k)
 
--- each region is at some place
+-- Each region is at some place.
 abbrev pub ArePlaced : {A : Type 0} → Readers → Sources A → Scheduled → List Feeding → (ℕ → List (List Picture)) → (ℕ → List Picture) → Type 0
 ArePlaced R sources s feeds passed own = (k : ℕ) (f : Feeding) → slice_get feeds k ≡ Some f → IsPlaced R sources s k f (passed k) (own k)
 
@@ -145,13 +146,13 @@ abbrev pub Went : {A : Type 0} → Readers → Sources A → (s s' : Scheduled) 
 Went R sources s s' k f passed own result =
     GoesOn R sources (files_of_region s.regions k) (slice_index s.gone k) (slice_index s'.gone k) f (passed k) (own k) result
 
--- the first m of them were gone on with, and these have ended; the others are where they were
+-- The first m regions were advanced, and these have ended; the others are where they were.
 pub record WentOn {A : Type 0} (R : Readers) (sources : Sources A) (s s' : Scheduled) (feeds : List Feeding) (ended : List Bool)
     (passed : ℕ → List (List Picture)) (own : ℕ → List Picture) (m n : ℕ) : Type 0 where
   pub went : (k : ℕ) (f : Feeding) → k < m → slice_get feeds k ≡ Some f → Went R sources s s' k f passed own (Ok (not (get_or ended k false)))
   pub stays : (k : ℕ) (f : Feeding) → n ≤ k → slice_get feeds k ≡ Some f → IsPlaced R sources s k f (passed k) (own k)
 
--- region k stopped the command
+-- Region k stopped the command.
 pub record StopsAt {A : Type 0} (R : Readers) (sources : Sources A) (s s' : Scheduled) (feeds : List Feeding) (ended : List Bool)
     (passed : ℕ → List (List Picture)) (own : ℕ → List Picture) (stop : Stop) : Type 0 where
   pub k : ℕ
@@ -165,7 +166,7 @@ abbrev pub AdvancesEach : {A : Type 0} → Readers → Sources A → (s s' : Sch
 AdvancesEach R sources s s' feeds ended passed own (Ok _) = WentOn R sources s s' feeds ended passed own (length feeds) (length feeds)
 AdvancesEach R sources s s' feeds ended passed own (Err stop) = StopsAt R sources s s' feeds ended passed own stop
 
--- behind n rounds: by their lengths where each was gone on with
+-- After n rounds: by their lengths, if each was advanced.
 abbrev pub AdvancesRegions : {A : Type 0} → Readers → Sources A → (s s' : Scheduled) → List Feeding → List Bool → (ℕ → List (List Picture))
     → (ℕ → List Picture) → ℕ → Result Bool Stop → Type 0
 AdvancesRegions R sources s s' feeds ended passed own n (Ok go) =
@@ -182,26 +183,26 @@ pub record SameFiles (s s' : Scheduled) : Type 0 where
 
 -- ---- rounds
 
--- what is answered of a round that may be joined
+-- The result of a round that may be joined.
 abbrev pub WritesRound : Bool → List Parts → List Plan → Merging → Option (List ℕ) → Option (List ℕ) → ℕ → ℕ
     → Result (Unit {0}) WriteError → Type 0
 WritesRound true round done m bytes bytes' faults faults' answer = WritesJoined (map after_end_of_sequence round) done m bytes bytes' faults faults' answer
 WritesRound false round done m bytes bytes' faults faults' answer = WritesOneRound round done m bytes bytes' faults faults' answer
 
--- what came of round n
+-- The outcome of round n.
 abbrev pub PlaysRound : {K : Type 0} → Bool → List Parts → List Plan → Merging → Change K → ℕ → Outcome → Type 0
 PlaysRound joins round done m out n outcome =
     ComesOf (WritesRound joins round done m (out.bytes out.old) (out.bytes out.new) (out.faults out.old) (out.faults out.new)) n outcome
 
--- region k has n pictures, and none where it is at its first file and took none
+-- Region k has n pictures, and none if it is at its first file and took none.
 abbrev pub HasTakenSo : ℕ → List (List Picture) → List Picture → Type 0
 HasTakenSo n passed own = (length own + count_of passed ≡ n) × (own ≡ [] → passed ≡ [])
 
--- a schedule was asked whether regions are joined in each of n rounds, the last time of these files
+-- A schedule was asked whether regions are joined in each of n rounds, the last time of these files.
 abbrev pub HasAsked : ℕ → Scheduled → Type 0
 HasAsked n s = ((n ≡ 0) × (s.last ≡ None)) ⊎ ((0 < n) × (s.last ≡ Some s.gone))
 
--- n rounds were written
+-- n rounds were written.
 pub record HasPlayed {A K : Type 0} (R : Readers) (corners : List Corner) (level : Option ℕ) (sources : Sources A) (out : Change K) (s : Scheduled)
     (feeds : List Feeding) (m : Merging) (n : ℕ) : Type 0 where
   pub passed : ℕ → List (List Picture)
@@ -214,7 +215,7 @@ pub record HasPlayed {A K : Type 0} (R : Readers) (corners : List Corner) (level
   pub plans : WhereAllTold R sources (λ files. ArePlayedOf corners level s.regions files done)
   pub gained : Gains out (bytes_of done)
 
--- what all rounds did to the files and to `out`, by what came of them
+-- What all rounds did to the files and to `out`, by their outcome.
 abbrev pub PlaysRounds : {A K : Type 0} → Readers → List Corner → Option ℕ → List ℕ → Sources A → Change K → Outcome → Type 0
 PlaysRounds R corners level regions sources out (Ok _) =
     OfEachSource sources IsReadOut × HasNoFault out

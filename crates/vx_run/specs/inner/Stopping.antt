@@ -1,4 +1,4 @@
--- What stops a command: where a feed stops, and where a picture or a round isn't written.
+-- What stops a command: a feed that stops, or a picture or a round that isn't written. Our own.
 use Rattle.std.specs.Prelude.{◌≡◌, ℕ, Result, Ok, Err}
 use Rattle.vx_assemble.specs.declared.feed.FeedFault.{FeedFault}
 use Rattle.vx_assemble.specs.declared.feed.FeedFault.TheVariants as feed
@@ -9,21 +9,21 @@ use Rattle.vx_run.specs.declared.stop.Stop.{Stop}
 use Rattle.vx_run.specs.declared.stop.Stop.TheVariants.{Refused, ReadFault, WriteFault, NoMemory}
 use Rattle.vx_run.specs.Conclusion.{Outcome}
 
--- where the feed of source k stops behind its n-th unit
+-- The feed of source k stops after n units.
 abbrev pub stop_of_feed : FeedFault → (k n : ℕ) → Stop
 stop_of_feed (feed.Refused r) k n = Refused r (places.Unit k n)
 stop_of_feed feed.SourceFailed k n = ReadFault k
 stop_of_feed feed.Memory k n = NoMemory
 stop_of_feed (feed.Stopped first) k n = NoMemory
 
--- where the n-th picture, or round, isn't written
+-- Picture, or round, n isn't written.
 abbrev pub stop_of_write : WriteError → ℕ → Stop
 stop_of_write (errors.Refused r) n = Refused r (places.Picture n)
 stop_of_write errors.SinkFailed n = WriteFault
 stop_of_write errors.Memory n = NoMemory
 stop_of_write (errors.Stopped first) n = NoMemory
 
--- what came of it, where these are the answers
+-- The outcome of these results.
 abbrev pub ComesOf : (Result (Unit {0}) WriteError → Type 0) → ℕ → Outcome → Type 0
 ComesOf Answers n (Ok _) = Answers (Ok tt)
 ComesOf Answers n (Err (Refused r place)) = Answers (Err (errors.Refused r)) × (place ≡ places.Picture n)

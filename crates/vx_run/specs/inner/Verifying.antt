@@ -1,4 +1,4 @@
--- The steps of `verify merge`: rounds that were verified.
+-- The steps of `verify merge`: rounds that were verified. Our own.
 use Rattle.std.specs.Prelude.{◌≡◌, ℕ, ◌<◌, List, length, Result, Ok, Err}
 use Rattle.vx_pic.specs.Readings.{Picture}
 use Rattle.vx_pic.specs.Rules.{Readers}
@@ -16,20 +16,20 @@ use Rattle.vx_run.specs.Rounds.{NoneRefused, OfEachSource, IsRead, IsReadOut, Is
 use Rattle.vx_run.specs.Verify.{OfRound, AreVerified, EndsVerified}
 use Rattle.vx_run.specs.inner.Advancing.{AreWaiting, so_far}
 
--- where round n isn't verified
+-- Round n isn't verified.
 abbrev pub stop_in : VerifyError → ℕ → Stop
 stop_in (errors.Refused m) n = Mismatched m n
 stop_in errors.Memory n = NoMemory
 stop_in (errors.Stopped first) n = NoMemory
 
--- what is answered of round n
+-- The result of round n.
 abbrev pub VerifiesRound : List Spot → List Parts → ℕ → Outcome → Type 0
 VerifiesRound spots round n (Ok _) = OfRound (IsVerified spots) round
 VerifiesRound spots round n (Err (Mismatched m k)) = OfRound (λ finished sources. IsMismatch spots finished sources m) round × (k ≡ n)
 VerifiesRound spots round n (Err NoMemory) = Unit {0}
 VerifiesRound spots round n (Err _) = ⊥
 
--- how many rounds were verified, or what stopped that
+-- How many rounds were verified, or what stopped that.
 abbrev pub VerifiesRounds : {A : Type 0} → Readers → List Spot → Sources A → Result ℕ Stop → Type 0
 VerifiesRounds R spots sources (Ok n) = OfEachSource sources IsReadOut × WhereAllTold R sources (λ ss. EndsVerified spots ss n (Ok tt))
 VerifiesRounds R spots sources (Err (Mismatched m n)) =
@@ -44,7 +44,7 @@ VerifiesRounds R spots sources (Err WriteFault) = ⊥
 VerifiesRounds R spots sources (Err NoMemory) = OfEachSource sources IsRead
 VerifiesRounds R spots sources (Err NotUnderstood) = ⊥
 
--- n rounds were verified
+-- n rounds were verified.
 pub record HasVerified {A : Type 0} (R : Readers) (spots : List Spot) (sources : Sources A) (feeds : List Feeding) (n : ℕ) : Type 0 where
   pub taken : List (List Picture)
   pub waiting : AreWaiting R sources feeds taken n

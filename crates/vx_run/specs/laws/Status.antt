@@ -1,4 +1,4 @@
--- Which status `run` answers: what follows of all that came of a command, as the clause `ends` of `run` has it.
+-- Which status `run` returns: what follows from the clause `ends` of `run`. Our own.
 use Rattle.std.specs.Prelude.{◌≡◌, ◌≢◌, ◌↔◌, ◌⊎◌, ℕ, ◌<◌, List, length, Option, None, Ok}
 use Rattle.vx_pic.specs.H266.{AreOfH266}
 use Rattle.vx_pic.specs.Rules.{Readers}
@@ -17,7 +17,7 @@ use Rattle.vx_run.specs.Verify.{EndsVerified, spots_of}
 
 -- ---- words that are not understood
 
--- 2 is exactly theirs
+-- Status 2 comes if and only if the arguments are not understood.
 abbrev pub Status2IsExact : (A K E : Type 0) → Type 0
 Status2IsExact A K E =
     (words : List (List ℕ)) (sources : Sources A) (out : Change K) (status : ℕ) (err : Change E) → Runs words sources out status err
@@ -25,7 +25,7 @@ Status2IsExact A K E =
 
 -- ---- more than there may be
 
--- more files are placed than there may be; or regions, of `play`
+-- More files are placed than there may be; or more regions, for `play`.
 abbrev pub PlacesTooMany : Command → Type 0
 PlacesTooMany (merge level placings) = most_sources < length placings
 PlacesTooMany (check_merge placings) = most_sources < length placings
@@ -33,7 +33,7 @@ PlacesTooMany (verify finished placings) = most_sources < length placings
 PlacesTooMany (play level placings) = (most_sources < length (region_corners placings)) ⊎ (most_files < length placings)
 PlacesTooMany _ = ⊥
 
--- that is refused, want of memory aside
+-- That is refused, lack of memory apart.
 abbrev pub TooManyAreRefused : (A K E : Type 0) → Type 0
 TooManyAreRefused A K E =
     (words : List (List ℕ)) (sources : Sources A) (out : Change K) (status : ℕ) (err : Change E) → Runs words sources out status err
@@ -41,7 +41,7 @@ TooManyAreRefused A K E =
 
 -- ---- all others
 
--- all rounds can be written
+-- All rounds can be written.
 abbrev pub IsWritable : List Corner → Option ℕ → List Stream → Type 0
 IsWritable corners level ss = (done : List Plan) × EndsWritten corners level ss done (Ok tt)
 
@@ -54,7 +54,7 @@ IsPlayable corners level regions files = (done : List Plan) × EndsPlayed corner
 abbrev pub IsVerifiedMerge : List Spot → List Stream → Type 0
 IsVerifiedMerge spots ss = (n : ℕ) × EndsVerified spots ss n (Ok tt)
 
--- 0 exactly where this is so, and else 1
+-- 0 if and only if this is so, and otherwise 1.
 pub record IsZeroWhere (P : Type 0) (status : ℕ) : Type 0 where
   pub done : (status ≡ 0) ↔ P
   pub refused : (status ≡ 1) ↔ ¬ P
@@ -63,8 +63,8 @@ pub record IsZeroWhere (P : Type 0) (status : ℕ) : Type 0 where
 abbrev pub ByReaders : (Readers → Type 0) → Type 0
 ByReaders P = (R : Readers) → AreOfH266 R → P R
 
--- The status of a command whose sources tell their bytes: 0 where the stream breaks no rule, the subpicture can be extracted, all rounds can be
--- written or played, or are verified; and else 1. Of those without sources it is 0.
+-- The status of a command whose sources have known bytes. It is 0 if the stream breaks no rule, the subpicture can be extracted, all
+-- rounds can be written or played, or are verified; otherwise it is 1. For commands without sources it is 0.
 abbrev pub HasStatus : {A : Type 0} → Command → Sources A → ℕ → Type 0
 HasStatus (show fields file) sources status =
     ByReaders (λ R. WhereKnown R (source_at sources 0) (λ b units ending. IsZeroWhere (ending ≡ None) status))
@@ -85,12 +85,12 @@ HasStatus help sources status = status ≡ 0
 HasStatus version sources status = status ≡ 0
 HasStatus (explain word) sources status = status ≡ 0
 
--- no read of a source failed, and no write to `out`
+-- No read of a source failed, and no write to `out`.
 pub record HaveNoFault {A K : Type 0} (sources : Sources A) (out : Change K) : Type 0 where
   pub reads : OfEachSource sources (λ source. ¬ HasFault source)
   pub writes : ¬ HasFault out
 
--- that is so, faults and want of memory aside
+-- That is so, faults and lack of memory apart.
 abbrev pub StatusIsExact : (A K E : Type 0) → Type 0
 StatusIsExact A K E =
     (words : List (List ℕ)) (sources : Sources A) (out : Change K) (status : ℕ) (err : Change E) → Runs words sources out status err
