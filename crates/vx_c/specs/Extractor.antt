@@ -1,4 +1,4 @@
--- What each call on an extractor does to it, and what it answers.
+-- What each call on an extractor does to it, and what it returns. Our own.
 use Rattle.std.specs.Prelude.{◌≡◌, ◌⊎◌, ℕ, ◌-◌, ◌≤◌, true, List, [], ◌++◌, length, take, Option, Some, None, IfSome}
 use Rattle.vx_pic.specs.declared.kind.Kind.{Kind}
 use Rattle.vx_pic.specs.Readings.{Picture}
@@ -23,12 +23,12 @@ use Rattle.vx_c.specs.declared.status.TheConstants.{DONE, WAITS, ENDED}
 abbrev pub task_of : ℕ → ℕ → ℕ → Task
 task_of index tid level = record { target = index; level = level_of level; tid = tid }
 
--- indices are 0 to 999, and a TemporalId is 0 to 6
+-- Indices are 0 to 999, and a TemporalId is 0 to 6.
 pub record IsTask (index tid : ℕ) : Type 0 where
   pub index_ : index ≤ 999
   pub tid_ : tid ≤ 6
 
--- an extractor that does this task, to which nothing was handed in
+-- An extractor that does this task, to which nothing was pushed.
 pub record IsFresh (c : Cutting) (task : Task) : Type 0 where
   pub cut : (R : Readers) → HasCut R task c nothing [] []
   pub held : c.held ≡ None
@@ -36,13 +36,13 @@ pub record IsFresh (c : Cutting) (task : Task) : Type 0 where
 
 -- ---- push, flush, end
 
--- more was handed in, and nothing else was done
+-- More was pushed, and nothing else was done.
 pub record HandsOver (c later : Cutting) (more : Handed → Handed) (status : ℕ) : Type 0 where
   pub cut : (R : Readers) → AreOfH266 R → (t : Task) (h : Handed) (ps : List Picture) (done : List Plan)
       → HasCut R t c h ps done → HasCut R t later (more h) ps done
   pub status_ : status ≡ DONE
 
--- so many bytes of the piece were taken, as the intake takes them, and none behind the end
+-- This many bytes of the piece were taken, as the intake takes them, and none after the end.
 pub record Pushes (c later : Cutting) (piece : List ℕ) (taken status : ℕ) : Type 0 where
   pub hands : HandsOver c later (λ h. with_more h (take taken piece)) status
   pub few : taken ≤ length piece
@@ -58,7 +58,7 @@ status_by ToWait = WAITS
 status_by ToEnd = ENDED
 status_by (ToStop stop) = status_of stop
 
--- an extractor comes to this: the picture that it holds, or the end that it came to, again; or what is next
+-- An extractor comes to this: the picture that it holds, or its end, again; or what is next.
 pub record ComesTo (c later : Cutting) (cut : Cut) : Type 0 where
   pub held : (kind : Kind) → c.held ≡ Some kind → (cut ≡ ToPicture) × (later ≡ c)
   pub ended : (end : Cut) → c.held ≡ None → c.end ≡ Some end → (cut ≡ end) × (later ≡ c)
@@ -74,13 +74,13 @@ pub record Advances (c later : Cutting) (picture_before picture : GqPicture) (st
 
 -- ---- take, line
 
--- the picture is copied and given up
+-- The picture is copied and given up.
 pub record TakesPicture (c later : Cutting) (before after : List ℕ) (status : ℕ) : Type 0 where
   pub copies : CopiesPicture c later (record c { held = None; cut = [] }) c.held c.cut before after status
   pub cut : (R : Readers) → AreOfH266 R → (t : Task) (h : Handed) (ps : List Picture) (done : List Plan)
       → HasCut R t c h ps done → HasCut R t later h ps done
 
--- why it goes on no more, if it is stopped
+-- Why it goes on no more, if it is stopped.
 abbrev pub stop_in : Option Cut → Option Stop
 stop_in (Some (ToStop stop)) = Some stop
 stop_in end = None

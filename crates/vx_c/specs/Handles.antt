@@ -1,4 +1,4 @@
--- What a handle owns.
+-- What a handle owns. Our own.
 use Rattle.std.specs.Prelude.{Bool, true, false, Option, Some, None}
 use base.Fml.{Fml, ftrue, ffalse}
 use denote.RawPtr.{Ptr}
@@ -8,11 +8,11 @@ use Rattle.std_alloc.specs.Box.Ownership.{box_owns}
 use Rattle.vx_c.specs.declared.state.State.{State}
 use Rattle.vx_c.specs.contracts.state.State.{the_row}
 
--- the allocator of each box: there is one heap
+-- The allocator of each box: there is one heap.
 abbrev pub heap : Global
 heap = record { memory = record { seal = tt } }
 
--- a live one the box at its pointer, and a closed one nothing
+-- A live one the box at its pointer, and a closed one nothing.
 abbrev pub owned : Ptr → Bool → Option State → Fml
 owned at true (Some state) = box_owns (ghosts.dealloc_token heap) the_row at state
 owned at false None = ftrue

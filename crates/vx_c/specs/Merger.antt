@@ -1,4 +1,4 @@
--- What each call on a merger does to it, and what it answers.
+-- What each call on a merger does to it, and what it returns. Our own.
 use Rattle.std.specs.Prelude.{◌≡◌, ◌⊎◌, ℕ, ◌-◌, ◌≤◌, true, List, [], length, map, take, slice_get, Option, Some, None, IfSome}
 use Rattle.vx_frame.specs.declared.corner.Corner.{Corner}
 use Rattle.vx_merge.specs.Merging.{SameTask}
@@ -28,7 +28,7 @@ abbrev pub level_of : ℕ → Option ℕ
 level_of ℕ.zero = None
 level_of n = Some n
 
--- a merger of sources at these corners, to which nothing was handed in
+-- A merger of sources at these corners, to which nothing was pushed.
 pub record IsFresh (m : Mixing) (corners : List Corner) (level : Option ℕ) : Type 0 where
   pub corners_ : m.merger.corners ≡ corners
   pub level_ : m.merger.level ≡ level
@@ -38,13 +38,13 @@ pub record IsFresh (m : Mixing) (corners : List Corner) (level : Option ℕ) : T
 
 -- ---- push, flush, end
 
--- it is done; or there is no such source, and nothing changes
+-- It is done; or there is no such source, and nothing changes.
 pub record HandsOver (m later : Mixing) (source : ℕ) (more : Intaking → Handed → Handed) (status : ℕ) : Type 0 where
   pub status_ : (status ≡ DONE) ⊎ (status ≡ MISUSED)
   pub done : status ≡ DONE → HandsIn m later source more
   pub wrong : status ≡ MISUSED → (length m.intakes ≤ source) × (later ≡ m)
 
--- so many bytes of the piece were taken, and none behind the end
+-- This many bytes of the piece were taken, and none after the end.
 pub record Pushes (m later : Mixing) (source : ℕ) (piece : List ℕ) (taken status : ℕ) : Type 0 where
   pub hands : HandsOver m later source (λ i h. with_more h (take taken piece)) status
   pub few : taken ≤ length piece
@@ -67,7 +67,7 @@ abbrev pub source_by : Mixed → ℕ → ℕ
 source_by (ToWait k) before = k
 source_by mixed before = before
 
--- a merger comes to this: the picture that it holds, or the end that it came to, again; or what is next
+-- A merger comes to this: the picture that it holds, or its end, again; or what is next.
 pub record ComesTo (m later : Mixing) (mixed : Mixed) : Type 0 where
   pub held : (kind : Kind) → m.held ≡ Some kind → (mixed ≡ ToPicture) × (later ≡ m)
   pub ended : (end : Mixed) → m.held ≡ None → m.end ≡ Some end → (mixed ≡ end) × (later ≡ m)
@@ -86,12 +86,12 @@ pub record Advances (m later : Mixing) (source_before source : ℕ) (picture_bef
 
 -- ---- take, line
 
--- the merged picture is copied and given up
+-- The merged picture is copied and given up.
 pub record TakesPicture (m later : Mixing) (before after : List ℕ) (status : ℕ) : Type 0 where
   pub copies : CopiesPicture m later (record m { held = None; merged = [] }) m.held m.merged before after status
   pub mixed : (R : Readers) (given : List Handed) (done : List Plan) → HasMixed R m given done → HasMixed R later given done
 
--- why it goes on no more, if it is stopped
+-- Why it goes on no more, if it is stopped.
 abbrev pub stop_in : Option Mixed → Option Stop
 stop_in (Some (ToStop stop)) = Some stop
 stop_in end = None

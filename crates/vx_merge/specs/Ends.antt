@@ -1,11 +1,11 @@
--- Which sources have ended, by their index.
+-- Which sources have ended, by their index. Our own. The contract of `lengths` relies on it.
 use Rattle.std.specs.Prelude.{◌≡◌, ℕ, ◌<◌, true, false, Bool, List, length}
 use Rattle.std.specs.List.{slice_index_or}
 use Rattle.vx_fit.specs.Lowest.{IsLowest}
 use Rattle.vx_merge.specs.declared.ended.Lengths.{Lengths}
 use Rattle.vx_merge.specs.declared.ended.Lengths.TheVariants.{AllGo, AllEnded, Differ}
 
--- source k has ended, or goes on
+-- Source k has ended, or goes on.
 abbrev pub IsMarkedEnded : List Bool → ℕ → Type 0
 IsMarkedEnded ended k = slice_index_or ended k false ≡ true
 

@@ -1,4 +1,4 @@
--- The headers of the picture that a round is put together as: its picture header, and those of its slices (H.266 7.3.2.7, 7.3.7).
+-- The headers of a merged picture: its picture header, and those of its slices (H.266 7.3.2.7, 7.3.7).
 use Rattle.std.specs.Prelude.{◌≡◌, ℕ, pos, ◌+ℤ◌, ◌+◌, false, List, [], ◌∷◌, ◌++◌, drop, length, map, slice_get, Some, option_map, unwrap_or}
 use Rattle.vx_bits.specs.declared.list.Item.{Item}
 use Rattle.vx_fields.specs.declared.ph.TheConstants as ph
@@ -32,8 +32,8 @@ use Rattle.vx_merge.specs.Needed.{Ids, id_of_body}
 
 -- ---- the picture header (our own)
 
--- luma mapping with chroma scaling, where a source has it: the id of its set, and whether chroma residuals are scaled, as in the lowest
--- source that has it
+-- Luma mapping with chroma scaling, if a source has it: the id of its set, and whether chroma residuals are scaled, as in the lowest
+-- source that has it.
 abbrev pub lmcs_shape : List Parts → ℕ → LmcsShape
 lmcs_shape round id = record { id = id; scales_chroma = of_lowest has_lmcs is_chroma_scaled false round }
 
@@ -55,16 +55,16 @@ pub record HasMergedHeader (round : List Parts) (ids : Ids) (b : Begun) : Type 0
 
 -- ---- slices (our own)
 
--- the id that the set has in the written picture which a picture has as this one
+-- The id that the set has in the written picture which a picture has as this one.
 abbrev pub id_for : List Parts → Ids → Parts → ℕ → ℕ
 id_for round ids q id = id_of_body (alf_bodies round) ids.alf (unwrap_or (body_of q aps.ALF id) [])
 
--- the adaptive loop filter in force in a slice, with these ids
+-- The adaptive loop filter in force in a slice, with these ids.
 abbrev pub filter_in : List Parts → Ids → Parts → SlicePart → List Item
 filter_in round ids q s = with_ids (id_for round ids q) (filter_of (filter_items q.pps q.header.fields (read_of s.header)))
 
--- What the header of a slice of source k says: its subpicture, its filter, what it uses of LMCS and of scaling lists, and its QP, which
--- is counted from source 0's.
+-- What the header of a slice of source k says: its subpicture, its filter, its use of LMCS and of scaling lists, and its QP, which is
+-- counted from source 0's.
 pub record SaysSlice (round : List Parts) (ids : Ids) (k : ℕ) (s : SlicePart) (shape : ShShape) : Type 0 where
   pub subpic : shape.subpic_id ≡ k
   pub filter : shape.filter.now ≡ filter_in round ids (picture_at round k) s
@@ -74,7 +74,7 @@ pub record SaysSlice (round : List Parts) (ids : Ids) (k : ℕ) (s : SlicePart) 
   pub qp : (pos 26 +ℤ signed (picture_at round 0).pps pps.pps_init_qp_minus26) +ℤ shape.qp_delta
       ≡ slice_qp (picture_at round k).pps (picture_at round k).header.fields (read_of s.header)
 
--- what is in force at slices of a type
+-- What is in force for slices of a type.
 pub record AreNumbers (nal_type : ℕ) (b : Begun) (n : SliceNumbers) : Type 0 where
   pub type : n.nal_type ≡ nal_type
   pub sps : n.sps.now ≡ b.sps
@@ -102,7 +102,7 @@ pub record IsMergedSlice (round : List Parts) (ids : Ids) (nal_type : ℕ) (b : 
   pub read : w.header ≡ record { fields = is.header.fields; subpic = is.header.subpic; payload = length front }
   pub unit : w.unit ≡ front ++ drop s.payload s.unit
 
--- the slices of pictures, each with the index of its source: by source, and then by address
+-- The slices of pictures, each with the index of its source: by source, and then by address.
 abbrev pub sourced : ℕ → List Parts → List (ℕ × SlicePart)
 sourced k [] = []
 sourced k (q ∷ round) = map (λ s. (k, s)) q.slices ++ sourced (k + 1) round

@@ -1,4 +1,4 @@
--- A round whose pictures are joined behind those before it: each starts a coded layer video sequence behind an end of sequence. Our own.
+-- A round whose pictures are joined to those before it: each starts a coded layer video sequence after an end of sequence. Our own.
 use Rattle.std.specs.Prelude.{◌≡◌, ◌⊎◌, ℕ, Bool, true, false, cond, List, [], ◌∷◌, length, Option, Some, None, Result, Ok, Err}
 use Rattle.vx_bits.specs.declared.refusal.Refusal.{Refusal}
 use Rattle.vx_bits.specs.declared.rules.TheConstants as rules
@@ -13,11 +13,11 @@ use Rattle.vx_frame.specs.Rules.{of_source}
 use Rattle.vx_frame.specs.Verdict.{Rule, IsVerdict}
 use Rattle.vx_merge.specs.Merging.{IsBarred, Merging, WritesOneRound}
 
--- the same picture behind an end of sequence
+-- The same picture after an end of sequence.
 abbrev pub after_end_of_sequence : Parts → Parts
 after_end_of_sequence q = record q { kind = record q.kind { after_eos = true } }
 
--- A picture that may come first behind a join: it starts a coded layer video sequence, at TemporalId 0, and later counts can go back to it
+-- A picture that may come first after a join: it starts a coded layer video sequence, at TemporalId 0, and later counts can go back to it
 -- (7.4.2.4.2, 8.3.1).
 pub record CanStart (q : Parts) : Type 0 where
   pub clvss : q.kind.clvss ≡ true
@@ -28,17 +28,17 @@ pub record CanStart (q : Parts) : Type 0 where
 abbrev pub join_start : List Parts → Rule
 join_start round = of_source rules.JOIN_START (λ k. ¬ CanStart (picture_at round k))
 
--- the verdict on a round that may be joined
+-- The verdict on a round that may be joined.
 abbrev pub JudgesJoin : Bool → List Corner → List Parts → Option Refusal → Type 0
 JudgesJoin joins corners round verdict = IsVerdict (length corners) (cond joins (join_start round ∷ []) []) verdict
 
--- it can't be written behind others: its pictures can't begin there, or, where they can, for a rule or a limit
+-- It can't be written after others: its pictures can't begin there, or, if they can, for a rule or a limit.
 abbrev pub IsBarredWhere : Bool → List Corner → Option ℕ → List Parts → List Plan → Refusal → Type 0
 IsBarredWhere joins corners level round done r =
     JudgesJoin joins corners round (Some r) ⊎ (JudgesJoin joins corners round None × IsBarred corners level round done r)
 
--- What is answered of a round that is joined behind others, its pictures being marked so, with the bytes and the count of faults of a sink
--- before and after: as of any round, but that its pictures may begin there wherever something is written.
+-- The result of a round that is joined to others, its pictures being marked so, with the bytes and the count of faults of a sink before
+-- and after. It is that of any round, except that its pictures may begin there if something is written.
 abbrev pub WritesJoined : List Parts → List Plan → Merging → Option (List ℕ) → Option (List ℕ) → ℕ → ℕ → Result (Unit {0}) WriteError → Type 0
 WritesJoined round done new bytes bytes' faults faults' (Ok _) =
     JudgesJoin true new.corners round None × WritesOneRound round done new bytes bytes' faults faults' (Ok tt)

@@ -21,7 +21,7 @@ lmcs_bodies round = option_to_list (of_lowest has_lmcs lmcs_body None round)
 abbrev pub scaling_bodies : List Parts → List (List ℕ)
 scaling_bodies round = option_to_list (of_lowest has_scaling scaling_body None round)
 
--- the set of a type with this id, of the k-th body
+-- The set of a type with this id, of the k-th body.
 abbrev pub aps_of_body : ℕ → List (List ℕ) → ℕ → ℕ → Set
 aps_of_body kind bodies k id = an_aps (record { kind = kind; id = id; body = slice_index_or bodies k [] })
 
@@ -34,15 +34,15 @@ pub record Ids : Type 0 where
   pub lmcs : List ℕ
   pub scaling : List ℕ
 
--- The sets take these ids, for a picture of this TemporalId behind sets that count as sent. The PPS, here with the id 0, is looked for with
--- each id.
+-- The sets take these ids, for a picture of this TemporalId after sets that count as sent. The PPS, here with the id 0, is looked for
+-- with each id.
 pub record TakeIds (round : List Parts) (t : ℕ) (sent : List SetUnit) (pps : List Item) (ids : Ids) : Type 0 where
   pub of_pps : TakeSlots pps_slots 1 t sent (λ k id. a_pps (pps_with_id id pps)) (ids.pps ∷ [])
   pub of_alf : TakeSlots alf_slots (length (alf_bodies round)) t sent (aps_of_body aps.ALF (alf_bodies round)) ids.alf
   pub of_lmcs : TakeSlots lmcs_slots (length (lmcs_bodies round)) t sent (aps_of_body aps.LMCS (lmcs_bodies round)) ids.lmcs
   pub of_scaling : TakeSlots scaling_slots (length (scaling_bodies round)) t sent (aps_of_body aps.SCALING (scaling_bodies round)) ids.scaling
 
--- the id of a body among these
+-- The id of a body among these.
 abbrev pub id_of_body : List (List ℕ) → List ℕ → List ℕ → ℕ
 id_of_body (b ∷ bodies) (id ∷ ids) body = cond (same_bytes b body) id (id_of_body bodies ids body)
 id_of_body _ _ body = 0
@@ -56,7 +56,7 @@ sets_with_id kind bodies ids id = map (λ p. an_aps (record { kind = kind; id = 
 abbrev pub by_ids : ℕ → ℕ → List (List ℕ) → List ℕ → List Set
 by_ids kind count bodies ids = flat_map (sets_with_id kind bodies ids) (range_with_len 0 count)
 
--- all: the SPS, the PPS, and adaptation parameter sets by rising type and id
+-- All: the SPS, the PPS, and adaptation parameter sets by rising type and id.
 abbrev pub sets_of_round : List Parts → Ids → (sps pps : List Item) → List Set
 sets_of_round round ids sps pps =
     an_sps sps ∷ a_pps pps

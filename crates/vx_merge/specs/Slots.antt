@@ -5,8 +5,8 @@ use Rattle.vx_fit.specs.Lowest.{IsLowest}
 use Rattle.vx_pic.specs.Resident.{last_of, serves}
 use Rattle.vx_pic.specs.Written.{Set, SetUnit}
 
--- Sets of one type, in the order of their first use: `at k i` is the k-th one with the id i. These slots are looked at for a picture of
--- a TemporalId, behind the sets that count as sent.
+-- Sets of one type, in the order of their first use: `at k i` is the k-th one with the id i. These slots are considered for a picture of
+-- a TemporalId, after the sets that count as sent.
 module _ (count n t : ℕ) (sent : List SetUnit) (at : ℕ → ℕ → Set) where
   -- slot i holds set k
   abbrev pub Holds : ℕ → ℕ → Type 0
@@ -28,7 +28,7 @@ module _ (count n t : ℕ) (sent : List SetUnit) (at : ℕ → ℕ → Set) wher
   abbrev pub IsFresh : List ℕ → ℕ → ℕ → Type 0
   IsFresh slots k i = IsEmpty k i × (¬ IsTaken slots k i)
 
-  -- set k takes the lowest such slot; where there is none, the lowest that is free
+  -- Set k takes the lowest such slot; if there is none, the lowest that is free.
   abbrev pub TakesFree : List ℕ → ℕ → ℕ → Type 0
   TakesFree slots k slot =
       IsLowest count (IsFresh slots k) slot

@@ -1,5 +1,5 @@
--- An intake, as its callers see it: by these words, and by the relation `HasCome` between it, what was handed in to it, and the pictures
--- that it came to, the latest first. That relation begins with none of these; `ComesTo` says what it is worth.
+-- An intake, as its callers see it: by these definitions, and by the relation `HasCome` between it, what was pushed to it, and the
+-- pictures that it found, the latest first. That relation begins with none of these; `ComesTo` says what it means. Our own.
 use Rattle.std.specs.Prelude.{◌≡◌, ℕ, ◌<◌, Bool, true, false, List, ◌∷◌, length, Some, None}
 use Rattle.vx_annexb.specs.Reading.{fed_at_once}
 use Rattle.vx_pic.specs.Readings.{Picture}
@@ -14,8 +14,8 @@ use Rattle.vx_push.specs.declared.intake.State.TheVariants as states
 pub use Rattle.vx_push.specs.Handed.{Handed, nothing, with_more, with_end, zeros, IsOpenedBy, OfEachStream}
 pub use Rattle.vx_push.specs.inner.Comes.{Intaking, IsFedBy}
 
--- What an intake has come to, that came to these pictures: however the stream goes on, they are its first ones, and where it waits all
--- that are seen in what was handed in; or they are all, behind which the stream ends or is refused.
+-- Where an intake stands that has found these pictures. However the stream goes on, they are its first ones, and if it waits they are all
+-- that are complete in what was pushed; or they are all, and after them the stream ends or is refused.
 abbrev pub ComesTo : Readers → Handed → List Picture → State → Type 0
 ComesTo R h ps states.Waits =
     OfEachStream R h (λ qs ending. BeginsWithPictures qs ps) × AreSeenPictures R (seen_of h.bytes) ps × (h.all ≡ false)
@@ -25,18 +25,18 @@ ComesTo R h ps (states.Refused r n) =
     OfEachStream R h (λ qs ending. (qs ≡ ps) × (ending ≡ Some (record { units = n; refusal = r })))
 ComesTo R h ps states.NoMemory = OfEachStream R h (λ qs ending. BeginsWithPictures qs ps)
 
--- This was handed in to it, and it came to these pictures. Where it holds a picture, that is the latest one.
+-- This was pushed to it, and it has found these pictures. If it lends a picture, that is the latest one.
 pub record HasCome (R : Readers) (i : Intaking) (h : Handed) (ps : List Picture) : Type 0 where
   pub told : ComesTo R h ps i.state
   pub lends : i.state ≡ states.Picture → ShowsLatest (lent_by i.feed.assembler) ps
   pub fed : IsFedBy R i h ps i.state
 
--- It came to what is next behind these pictures: to one more, or to none.
+-- It advanced past these pictures: to one more, or to none.
 abbrev pub ComesNext : Readers → Intaking → Handed → List Picture → State → Type 0
 ComesNext R i h ps states.Picture = (p : Picture) × HasCome R i h (p ∷ ps)
 ComesNext R i h ps state = HasCome R i h ps
 
--- the zeros that `flush` hands in, where it waits or holds a picture, and where neither these nor its end were handed in behind that
+-- The zeros that `flush` pushes: while it waits or lends a picture, unless they or the end were declared after that picture.
 abbrev pub flushed_by : State → (flushed ended : Bool) → Handed → Handed
 flushed_by states.Waits flushed ended h = with_more h zeros
 flushed_by states.Picture false false h = with_more h zeros
@@ -45,10 +45,10 @@ flushed_by state flushed ended h = h
 abbrev pub with_zeros : Intaking → Handed → Handed
 with_zeros i h = flushed_by i.state i.flushed i.ended h
 
--- how many of n bytes it takes at once: 65,536 at most, and of a stream one more than a source may have
+-- How many of n bytes it takes at once: 65,536 at most, and of a stream one more than a source may have.
 abbrev pub taken_at_once : Intaking → ℕ → ℕ
 taken_at_once i n = fed_at_once i.feed.reader.taken n
 
--- how many bytes it holds: those behind the last unit taken, and those of the picture that was begun last
+-- How many bytes it holds: those after the last unit taken, and those of the picture that was begun last.
 abbrev pub bytes_held : Intaking → ℕ
 bytes_held i = feed.bytes_held i.feed

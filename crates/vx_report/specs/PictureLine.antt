@@ -8,7 +8,7 @@ use Rattle.vx_sps.specs.Subpictures.{subpics_of}
 use Rattle.vx_pic.specs.Parts.{Parts}
 use Rattle.vx_report.specs.declared.picture.PictureNumbers.{PictureNumbers}
 
--- what is shown of a picture before which so many were done
+-- The numbers shown of a picture after `before` others.
 abbrev pub picture_numbers : ℕ → Parts → PictureNumbers
 picture_numbers before p = record {
   picture = before;
@@ -18,7 +18,7 @@ picture_numbers before p = record {
   subpictures = subpics_of p.sps;
 }
 
--- the picture as a JSON object, its keys in byte order
+-- The picture as a JSON object, its keys in byte order.
 abbrev pub picture_object : PictureNumbers → Data
 picture_object p =
     object (member (codes "clvss") (boolean p.clvss)
@@ -31,7 +31,7 @@ abbrev pub truth : Bool → List ℕ
 truth true = codes "true"
 truth false = codes "false"
 
--- the object's text, byte for byte
+-- The object's text, byte for byte.
 abbrev pub picture_json : PictureNumbers → List ℕ
 picture_json p = concat
     (codes "{\"clvss\":" ∷ truth p.clvss
@@ -41,6 +41,6 @@ picture_json p = concat
     ∷ codes ",\"subpictures\":" ∷ decimal p.subpictures
     ∷ codes "}" ∷ [])
 
--- the line, with its line feed
+-- The line, with its line feed.
 abbrev pub picture_text : PictureNumbers → List ℕ
 picture_text p = picture_json p ++ codes "\n"

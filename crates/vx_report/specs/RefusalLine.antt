@@ -1,4 +1,4 @@
--- The lines of refusals: a word for each kind of line, by the letter of its rules. Our own.
+-- The lines of refusals: one definition for each kind of line, by the letter of its rules. Our own.
 use Rattle.std.specs.Prelude.{ℕ, ◌==◌, ◌||◌, Bool, cond, List, [], ◌∷◌, codes, decimal}
 use Rattle.std.specs.List.{concat}
 use Rattle.vx_bits.specs.declared.refusal.BitCause.{BitCause}
@@ -12,7 +12,7 @@ use Rattle.vx_report.specs.declared.refusal.Where.{Where}
 
 -- ---- words
 
--- a cause, by its name
+-- A cause, by its name.
 abbrev pub cause_word : BitCause → List ℕ
 cause_word Short = codes "Short"
 cause_word LongCode = codes "LongCode"
@@ -20,7 +20,7 @@ cause_word BadTrailing = codes "BadTrailing"
 cause_word BadAlignment = codes "BadAlignment"
 cause_word OutOfRange = codes "OutOfRange"
 
--- a kind of sets
+-- A kind of sets.
 abbrev pub set_word : ℕ → List ℕ
 set_word kind =
     cond (kind == aps.ALF) (codes "ALF")
@@ -51,11 +51,11 @@ abbrev pub source_limit_text : ℕ → Where → List ℕ
 source_limit_text code place = concat
     (codes "L" ∷ decimal code ∷ codes " source " ∷ decimal place.source ∷ codes "\n" ∷ [])
 
--- `L4` and `L11`, for what the words name
+-- `L4` and `L11`, for what the arguments name.
 abbrev pub words_limit_text : ℕ → List ℕ
 words_limit_text code = concat (codes "L" ∷ decimal code ∷ codes "\n" ∷ [])
 
--- `L6 picture 5`, for what is to be written
+-- `L6 picture 5`, for what is to be written.
 abbrev pub written_limit_text : ℕ → Where → List ℕ
 written_limit_text code place = concat (codes "L" ∷ decimal code ∷ codes " picture " ∷ decimal place.picture ∷ codes "\n" ∷ [])
 
@@ -107,11 +107,11 @@ round_field_text code source of place = concat
 abbrev pub source_or_unit_text : ℕ → Where → List ℕ
 source_or_unit_text code place = cond (code == LONG_SOURCE) (source_limit_text code place) (refused_unit_text (codes "L") code place)
 
--- the limits on what the words name
+-- The limits on what the arguments name.
 abbrev pub is_of_words : ℕ → Bool
 is_of_words code = (code == TOO_MANY_SOURCES) || (code == TOO_MANY_FILES)
 
--- a limit on these, on what is to be written, or on what is read
+-- A limit on these, on what is to be written, or on what is read.
 abbrev pub limit_text : ℕ → Where → List ℕ
 limit_text code place =
     cond (is_of_words code) (words_limit_text code)
@@ -122,7 +122,7 @@ structure_text code kind id place =
     cond (code == SET_MISSING) (missing_text kind id place)
     (cond (code == LAYOUT) (layout_text id place) (refused_unit_text (codes "S") code place))
 
--- the rules of a merge that compare fields
+-- The rules of a merge that compare fields.
 abbrev pub names_field : ℕ → Bool
 names_field code = (code == SPS_TOOLS) || ((code == PPS_TOOLS) || (code == PICTURE_HEADER))
 

@@ -1,4 +1,4 @@
--- The line of a parameter set, and what it shows of the set. Our own.
+-- The line of a parameter set, and the numbers of the set that it has. Our own.
 use Rattle.std.specs.Prelude.{ℕ, ◌+◌, cond, List, [], ◌∷◌, ◌++◌, codes, decimal}
 use Rattle.std.specs.List.{concat}
 use Rattle.serde_json.specs.Data.{Data, number as json_number, unsigned, object, Members, member, no_members}
@@ -22,7 +22,7 @@ abbrev pub vps_numbers : List Item → SetNumbers
 vps_numbers v = Vps (number v vps.vps_video_parameter_set_id)
     (number v vps.vps_max_layers_minus1 + 1) (number v vps.vps_max_sublayers_minus1 + 1)
 
--- the size of the largest picture in luma samples, CtbSizeY and the number of subpictures (7.4.3.4)
+-- The size of the largest picture in luma samples, CtbSizeY and the number of subpictures (7.4.3.4).
 abbrev pub sps_numbers : List Item → SetNumbers
 sps_numbers s = Sps (sps_id s) (width_of s) (height_of s) (ctb_size_of s) (subpics_of s)
 
@@ -33,14 +33,14 @@ tile_columns p = cond (is_partitioned p) (across (partition_of p).tiles) 1
 abbrev pub tile_rows : List Item → ℕ
 tile_rows p = cond (is_partitioned p) (down (partition_of p).tiles) 1
 
--- the slices of a picture, 0 where each subpicture is one (7.4.3.5, pps_single_slice_per_subpic_flag)
+-- The number of slices of a picture, or 0 if each subpicture is one (7.4.3.5, pps_single_slice_per_subpic_flag).
 abbrev pub listed_slice_count : List Item → ℕ
 listed_slice_count p = cond (is_set (number p pps.pps_single_slice_per_subpic_flag)) 0 (number p pps.pps_num_slices_in_pic_minus1 + 1)
 
 abbrev pub pps_numbers : List Item → SetNumbers
 pps_numbers p = Pps (pps_id p) (referred_sps p) (tile_columns p) (tile_rows p) (listed_slice_count p)
 
--- a member of a JSON object
+-- A member of a JSON object.
 abbrev pub with_number : List ℕ → ℕ → Members → Members
 with_number key n more = member key (json_number (unsigned n)) more
 
@@ -106,6 +106,6 @@ set_json (Sps id width height ctu subpictures) = sps_json id width height ctu su
 set_json (Pps id sps columns rows slices) = pps_json id sps columns rows slices
 set_json (Aps kind id) = aps_json kind id
 
--- the line, with its line feed
+-- The line, with its line feed.
 abbrev pub set_text : SetNumbers → List ℕ
 set_text numbers = set_json numbers ++ codes "\n"

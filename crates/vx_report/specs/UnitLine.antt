@@ -4,7 +4,7 @@ use Rattle.std.specs.List.{concat}
 use Rattle.serde_json.specs.Data.{Data, number, unsigned, object, member, no_members}
 use Rattle.vx_annexb.specs.declared.header.NalHeader.{NalHeader}
 
--- the unit as a JSON object, its keys in byte order
+-- The unit as a JSON object, its keys in byte order.
 abbrev pub unit_object : NalHeader → ℕ → ℕ → Data
 unit_object header offset bytes =
     object (member (codes "bytes") (number (unsigned bytes))
@@ -12,7 +12,7 @@ unit_object header offset bytes =
     (member (codes "tid") (number (unsigned header.temporal_id))
     (member (codes "type") (number (unsigned header.nal_type)) no_members))))
 
--- the object's text, byte for byte
+-- The object's text, byte for byte.
 abbrev pub unit_json : NalHeader → ℕ → ℕ → List ℕ
 unit_json header offset bytes = concat
     (codes "{\"bytes\":" ∷ decimal bytes
@@ -21,6 +21,6 @@ unit_json header offset bytes = concat
     ∷ codes ",\"type\":" ∷ decimal header.nal_type
     ∷ codes "}" ∷ [])
 
--- the line, with its line feed
+-- The line, with its line feed.
 abbrev pub unit_text : NalHeader → ℕ → ℕ → List ℕ
 unit_text header offset bytes = unit_json header offset bytes ++ codes "\n"

@@ -1,4 +1,4 @@
--- What the slices of a round are written at, and what is written of them up to their payloads.
+-- What the slices of a round are written under, and what is written of them up to their payloads. Our own.
 use Rattle.std.specs.Prelude.{◌≡◌, ℕ, pos, neg_ℤ, ◌+ℤ◌, ◌≤ℤ◌, cond, List, [], map, unwrap_or}
 use Rattle.std.specs.List.{AllZip}
 use Rattle.vx_bits.specs.declared.list.Item.{Item}
@@ -32,22 +32,22 @@ use Rattle.vx_merge.specs.inner.Ready.{IsReadyAt, ids_in}
 
 -- ---- the filter of a slice
 
--- the id that the body takes which a picture has with this id
+-- The id that the body takes which a picture has with this id.
 abbrev pub new_id : NamedBodies → Parts → ℕ → ℕ
 new_id named q id = id_of_body (map (λ b. b.now) named.bodies) named.ids.items (unwrap_or (body_of q aps.ALF id) [])
 
--- an item with it, where its field names a set
+-- An item with it, if its field names a set.
 abbrev pub renamed : NamedBodies → Parts → Item → Item
 renamed named q item =
     cond (has set_ids item.field) (record { field = item.field; value = pos (new_id named q (natural item.value)) }) item
 
--- the filter in force of a slice, with the ids that its bodies take
+-- The filter in force of a slice, with the ids that its bodies take.
 abbrev pub new_filter : NamedBodies → Parts → SliceValue → List Item
 new_filter named q h = with_ids (new_id named q) (filter_of (filter_items q.pps q.header.fields (read_of h)))
 
 -- ---- what its header says
 
--- In the subpicture of this id, with this filter, where the first source's picture is the first one here.
+-- In the subpicture with this id, with this filter; the first source's picture is the first one here.
 pub record HasShape (first q : Parts) (k : ℕ) (h : SliceValue) (items : List Item) (shape : ShShape) : Type 0 where
   pub subpic : shape.subpic_id ≡ k
   pub filter : shape.filter.now ≡ items
@@ -59,7 +59,7 @@ pub record HasShape (first q : Parts) (k : ℕ) (h : SliceValue) (items : List I
 
 -- ---- a round
 
--- What is in force at its slices: the sets that it needs, its header and its frame.
+-- What is in force for its slices: the sets that it needs, its header and its frame.
 pub record IsInForce (round : List Parts) (n : RoundSets) (numbers : SliceNumbers) : Type 0 where
   pub ready : IsReadyAt round n numbers.layout.now
   pub type : numbers.nal_type ≡ (picture_at round 0).kind.nal_type

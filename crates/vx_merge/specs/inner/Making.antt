@@ -1,4 +1,4 @@
--- What is made of a round before any of it is written.
+-- What is made of a round before any of it is written. Our own.
 use Rattle.std.specs.Prelude.{◌≡◌, ℕ, ◌+◌, ◌-◌, ◌^◌, ◌<◌, ◌≤◌, min, nat_lt, Bool, List, [], ◌∷◌, ◌++◌, drop, length, map, sum_by, option_map, option_to_list, Option, Some}
 use Rattle.std.specs.List.{AllByRecursion, AllZip}
 use Rattle.vx_bits.specs.declared.refusal.Refusal.{Refusal}
@@ -25,7 +25,7 @@ use Rattle.vx_merge.specs.inner.Ready.{ids_in}
 
 -- ---- units
 
--- units of slices, each a front and a payload
+-- The units of slices, each in two pieces, the second of which is its payload.
 abbrev pub with_payloads : (fronts payloads : List (List ℕ)) → List (List ℕ)
 with_payloads [] payloads = []
 with_payloads (front ∷ fronts) [] = []
@@ -38,18 +38,18 @@ slice_units m = with_payloads (map (λ u. u.items) m.fronts.items) (map (λ b. b
 abbrev pub HasPayloads : RoundUnits → Type 0
 HasPayloads m = length m.fronts.items ≡ length m.payloads
 
--- all units
+-- All units.
 abbrev pub units_made : RoundUnits → List (List ℕ)
 units_made m =
     eos_units m.after_eos
     ++ (map (λ u. u.items) m.sets.items
     ++ (option_to_list (option_map (λ u. u.items) m.sei) ++ (m.header.items ∷ slice_units m)))
 
--- the bytes of units, and so many more for each
+-- The bytes of units, and this many more for each.
 abbrev pub size_of : ℕ → List (List ℕ) → ℕ
 size_of each units = sum_by (λ u. each + length u) units
 
--- the payloads of a picture's slices
+-- The payloads of a picture's slices.
 abbrev pub payload_of : SlicePart → List ℕ
 payload_of s = drop s.payload s.unit
 
@@ -66,20 +66,20 @@ limits_by units size total =
     ∷ of_limit rules.LONG_SOURCE (source_limit < total)
     ∷ []
 
--- a unit is too long
+-- A unit is too long.
 abbrev pub is_long : List ℕ → Bool
 is_long unit = nat_lt unit_limit (length unit)
 
--- a number, or the highest of 64 bits
+-- A number, or the highest of 64 bits.
 abbrev pub capped : ℕ → ℕ
 capped n = min n (2 ^ 64 - 1)
 
--- the limits of what was made behind so many bytes
+-- The limits of what was made after this many bytes.
 abbrev pub limits_on : RoundUnits → ℕ → List Rule
 limits_on m bytes =
     limits_by (units_made m) (length m.header.items + size_of 0 (slice_units m)) (bytes + size_of 4 (units_made m))
 
--- the verdict by them, on any number of sources
+-- The verdict by them, on any number of sources.
 abbrev pub AreLimits : RoundUnits → ℕ → Option Refusal → Type 0
 AreLimits m bytes answer = (n : ℕ) → 0 < n → IsVerdict n (limits_on m bytes) answer
 
@@ -96,7 +96,7 @@ pub record AreHeaders (round : List Parts) (n : RoundSets) (frame : Numbers) (he
   pub header : HasMergedHeader round (ids_in n) begun
   pub slices : AllZip (λ x front. IsFront round (ids_in n) (picture_at round 0).kind.nal_type begun x.0 x.1 front) (sourced 0 round) fronts
 
--- What is made of a round behind sets that were sent: a picture as it is to be written, and its units. These are the last sets then.
+-- What is made of a round after sets that were sent: a picture as it is to be written, and its units. These are the last sets then.
 pub record AreRoundUnits (corners : List Corner) (level : Option ℕ) (round : List Parts) (history : List SetUnit) (m : RoundUnits) (slots : List Sent) : Type 0 where
   pub plan : Plan
   pub is : (done : List Plan) → history_of done ≡ history → AllByRecursion AreBytes (units_made m) → IsMerged corners level round done plan

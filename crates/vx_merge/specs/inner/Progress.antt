@@ -1,4 +1,4 @@
--- What a merger keeps from round to round.
+-- What a merger keeps from round to round. Our own.
 use Rattle.std.specs.Prelude.{ℕ, List, Option, None, IfSome}
 use Rattle.vx_pic.specs.Written.{SetUnit}
 use Rattle.vx_write.specs.Slots.{AreLastOf, Sent}
@@ -11,11 +11,11 @@ use Rattle.vx_merge.specs.Merging.{Merging}
 abbrev pub HasHistory : List Sent → Type 0
 HasHistory slots = (history : List SetUnit) × AreLastOf history slots
 
--- the frame that is kept is one of these corners, at this level, and the slots are the last of some sets
+-- The frame that is kept is one of these corners, at this level, and the slots are the last of some sets.
 pub record IsProgress (corners : List Corner) (level : Option ℕ) (p : Progress) : Type 0 where
   pub frame : IfSome p.frame (λ f. IsKeptFrame corners level f.value)
   pub slots : HasHistory p.slots
 
--- a merger that goes on with it
+-- A merger that goes on with it.
 abbrev pub merging_of : List Corner → Option ℕ → Progress → Merging
 merging_of corners level p = record { corners = corners; level = level; slots = p.slots; bytes = p.bytes; first = None }

@@ -1,4 +1,4 @@
--- A round that breaks no rule, and the sets that it needs.
+-- A round that breaks no rule, and the sets that it needs. Our own.
 use Rattle.std.specs.Prelude.{◌≡◌, ℕ, ◌<◌, false, List, length, map, Option, None}
 use Rattle.vx_bits.specs.declared.list.Item.{Item}
 use Rattle.vx_layout.specs.declared.numbers.Numbers.{Numbers}
@@ -17,11 +17,11 @@ use Rattle.vx_frame.specs.inner.Geometry.{HasShapes, MakeFrame}
 use Rattle.vx_merge.specs.declared.needed.RoundSets.{RoundSets}
 use Rattle.vx_merge.specs.Needed.{Ids, TakeIds, lmcs_bodies, scaling_bodies}
 
--- the ids that the sets take
+-- The ids that the sets take.
 abbrev pub ids_in : RoundSets → Ids
 ids_in n = record { pps = n.pps_id; alf = n.alf.ids.items; lmcs = n.lmcs.ids.items; scaling = n.scaling.ids.items }
 
--- These are the sets that a round needs behind sets that count as sent, with the ids that they take.
+-- These are the sets that a round needs after sets that count as sent, with the ids that they take.
 pub record AreNeeded (corners : List Corner) (level : Option ℕ) (round : List Parts) (frame : Numbers) (sent : List SetUnit) (n : RoundSets) : Type 0 where
   pub sps : sps_reshaped.IsReshapedSps (picture_at round 0).sps (frame_sps_shape corners round level) n.sps.now
   pub plain : List Item

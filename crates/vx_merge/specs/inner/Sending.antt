@@ -1,4 +1,4 @@
--- The sets of a round as they are named and sent, type by type.
+-- The sets of a round as they are named and sent, type by type. Our own.
 use Rattle.std.specs.Prelude.{◌≡◌, ◌≢◌, ℕ, ◌<◌, List, ◌++◌, length, map, slice_index, IfSome}
 use Rattle.std.specs.List.{AllByRecursion}
 use Rattle.vx_bits.specs.Codes.{EndsInNoZero}
@@ -20,15 +20,15 @@ use Rattle.vx_merge.specs.inner.Taking.{an_aps_of}
 
 -- ---- bodies
 
--- a body can end a unit
+-- A body can end a unit.
 abbrev pub CanEnd : List ℕ → Type 0
 CanEnd body = (0 < length body) × EndsInNoZero body
 
--- each body that a picture has can
+-- Each body that a picture has can.
 abbrev pub HasEnds : Parts → Type 0
 HasEnds q = (kind id : ℕ) → IfSome (body_of q kind id) CanEnd
 
--- each body that a round needs can
+-- Each body that a round needs can.
 pub record HaveEnds (round : List Parts) : Type 0 where
   pub alf : AllByRecursion CanEnd (alf_bodies round)
   pub lmcs : AllByRecursion CanEnd (lmcs_bodies round)
@@ -36,11 +36,11 @@ pub record HaveEnds (round : List Parts) : Type 0 where
 
 -- ---- ids
 
--- no two are the same
+-- No two are the same.
 abbrev pub AreApart : List ℕ → Type 0
 AreApart ids = (j k : ℕ) → j < k → k < length ids → slice_index ids j ≢ slice_index ids k
 
--- the bodies are these, with the ids of this type that they take behind sets that count as sent
+-- The bodies are these, with the ids of this type that they take after sets that count as sent.
 pub record AreNamed (kind count t : ℕ) (slots : List Sent) (bodies : List (List ℕ)) (n : NamedBodies) : Type 0 where
   pub are : map (λ b. b.now) n.bodies ≡ bodies
   pub one_each : length n.ids.items ≡ length n.bodies
@@ -48,12 +48,12 @@ pub record AreNamed (kind count t : ℕ) (slots : List Sent) (bodies : List (Lis
 
 -- ---- sending
 
--- there is an id for each body, which can end a unit
+-- There is an id for each body, which can end a unit.
 pub record CanBeNamed (n : NamedBodies) : Type 0 where
   pub one_each : length n.ids.items ≡ length n.bodies
   pub ends : AllByRecursion CanEnd (map (λ b. b.now) n.bodies)
 
--- the sets can be written
+-- The sets can be written.
 pub record CanBeSent (n : RoundSets) : Type 0 where
   pub sps : sps_set.AreSpsItems n.sps.now
   pub pps : pps_set.ArePpsItems n.pps.now
@@ -61,17 +61,17 @@ pub record CanBeSent (n : RoundSets) : Type 0 where
   pub lmcs : CanBeNamed n.lmcs
   pub scaling : CanBeNamed n.scaling
 
--- none is an adaptation parameter set of this type
+-- None is an adaptation parameter set of this type.
 abbrev pub AreOfOthers : ℕ → List Set → Type 0
 AreOfOthers kind sets = (id : ℕ) → AreOthers (an_aps_of kind id) sets
 
--- no two ids of one type are the same
+-- No two ids of one type are the same.
 pub record AreAllApart (n : RoundSets) : Type 0 where
   pub alf : AreApart n.alf.ids.items
   pub lmcs : AreApart n.lmcs.ids.items
   pub scaling : AreApart n.scaling.ids.items
 
--- the adaptation parameter sets, by rising type and id
+-- The adaptation parameter sets, by rising type and id.
 abbrev pub bodies_sent : RoundSets → List Set
 bodies_sent n =
     by_ids aps.ALF alf_slots (map (λ b. b.now) n.alf.bodies) n.alf.ids.items

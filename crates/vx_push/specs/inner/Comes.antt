@@ -1,4 +1,4 @@
--- What an intake keeps to, and its steps. Lists of pictures have the latest first.
+-- What an intake keeps to, and its steps. Lists of pictures have the latest first. Our own.
 use Rattle.std.specs.Prelude.{◌≡◌, ℕ, ◌+◌, ◌^◌, ◌≤◌, cond, Bool, true, false, List, [], ◌∷◌, ◌++◌, length, Option, Some, None}
 use Rattle.vx_annexb.specs.ByteStream.{UnitPlace}
 use Rattle.vx_annexb.specs.Held.{IsSought}
@@ -23,7 +23,7 @@ use Rattle.vx_push.specs.Handed.{Handed, OfEachStream, zeros}
 use Rattle.vx_push.specs.declared.intake.State.{State}
 use Rattle.vx_push.specs.declared.intake.State.TheVariants as states
 
--- an intake: its feed, what it has come to, and whether zeros, or the end, were handed in behind the picture that it holds
+-- An intake: its feed, its state, and whether zeros, or the end, were declared after the picture that it lends.
 pub record Intaking : Type 0 where
   pub feed : Feeding
   pub state : State
@@ -33,21 +33,21 @@ pub record Intaking : Type 0 where
 abbrev pub intaking : Feeding → State → (flushed ended : Bool) → Intaking
 intaking f state flushed ended = record { feed = f; state = state; flushed = flushed; ended = ended }
 
--- ---- what is handed in
+-- ---- what is pushed
 
--- the zeros that its feed was not given yet
+-- The zeros that its feed was not given yet.
 abbrev pub zeros_if : Bool → List ℕ
 zeros_if flushed = cond flushed zeros []
 
--- What was handed in and not given to its feed: such zeros; nothing where it was given the end; and where it has more bytes than a source
--- may have, any.
+-- What was pushed and not given to its feed: such zeros; nothing if it was given the end; and anything if it has more bytes than a source
+-- may have.
 abbrev pub Owes : Option Closed → Bool → Bool → List ℕ → Type 0
 Owes None flushed ended owed = owed ≡ zeros_if flushed
 Owes (Some closed.End) flushed ended owed = (owed ≡ []) × (ended ≡ true)
 Owes (Some closed.TooLong) flushed ended owed = Unit {0}
 Owes (Some closed.Failed) flushed ended owed = Unit {0}
 
--- more was handed in, or the end
+-- More was pushed, or the end.
 pub record IsMore (h more : Handed) : Type 0 where
   pub piece : List ℕ
   pub bytes : more.bytes ≡ h.bytes ++ piece
@@ -60,7 +60,7 @@ pub record HasTaken (R : Readers) (f : Feeding) (g : List ℕ) (ps : List Pictur
   pub fed : HasFed R f g places before
   pub done : pictures before ≡ ps
 
--- it was given what was handed in, up to what is owed
+-- It was given what was pushed, up to what is owed.
 pub record IsGoing (R : Readers) (i : Intaking) (h : Handed) (ps : List Picture) : Type 0 where
   pub given : List ℕ
   pub owed : List ℕ
@@ -69,13 +69,13 @@ pub record IsGoing (R : Readers) (i : Intaking) (h : Handed) (ps : List Picture)
   pub owes : Owes i.feed.reader.closed i.flushed i.ended owed
   pub all : h.all ≡ i.ended
 
--- where it goes on
+-- If it goes on.
 abbrev pub IsFedBy : Readers → Intaking → Handed → List Picture → State → Type 0
 IsFedBy R i h ps states.Waits = IsGoing R i h ps
 IsFedBy R i h ps states.Picture = IsGoing R i h ps
 IsFedBy R i h ps state = Unit {0}
 
--- where it waits, its feed may be given more
+-- If it waits, its feed may be given more.
 pub record IsWaiting (i : Intaking) : Type 0 where
   pub open_ : IsOpen i.feed
   pub sought : IsSought i.feed.reader.splitter
@@ -87,14 +87,14 @@ IsReady i states.Waits = IsWaiting i
 IsReady i states.Picture = HasPicture i.feed.assembler × (i.feed.units ≤ 2 ^ 40)
 IsReady i state = Unit {0}
 
--- what it keeps to
+-- What it keeps to.
 pub record IsInStep (i : Intaking) : Type 0 where
   pub ready : IsReady i i.state
   pub bytes : bytes_held i.feed ≤ most_held
 
 -- ---- between its steps
 
--- What it came to behind these pictures, where it may yet wait for what is owed.
+-- Where it stands after these pictures, while it may yet wait for what is owed.
 abbrev pub StepsBehind : Readers → Intaking → Handed → List Picture → State → Type 0
 StepsBehind R i h ps states.Waits = (g : IsGoing R i h ps) × AreSeenPictures R (seen_of g.given) ps
 StepsBehind R i h ps states.Picture = (p : Picture) × IsGoing R i h (p ∷ ps) × ShowsLatest (lent_by i.feed.assembler) (p ∷ ps)
@@ -105,7 +105,7 @@ StepsBehind R i h ps states.NoMemory = OfEachStream R h (λ qs ending. BeginsWit
 
 -- ---- what a feed comes to in the bytes that it was given
 
--- it is refused for this behind the units of these pictures
+-- It is refused for this after the units of these pictures.
 pub record IsStopped (R : Readers) (f : Feeding) (g : List ℕ) (ps : List Picture) (r : Refusal) (n : ℕ) : Type 0 where
   pub places : List UnitPlace
   pub before : List Reading
@@ -116,7 +116,7 @@ pub record IsStopped (R : Readers) (f : Feeding) (g : List ℕ) (ps : List Pictu
   pub more : List UnitPlace
   pub read : HasRead f.reader g (places ++ more)
 
--- Behind these pictures: no further one is seen; one more is done, and none before it; or the bytes end, or are refused.
+-- After these pictures: no further one is complete; one more is done, and none before it; or the bytes end, or are refused.
 abbrev pub SeeksTo : Readers → List ℕ → List Picture → Feeding → State → Type 0
 SeeksTo R g ps f states.Waits = HasTaken R f g ps × AreSeenPictures R (seen_of g) ps
 SeeksTo R g ps f states.Picture = (p : Picture) × HasTaken R f g (p ∷ ps) × ShowsLatest (lent_by f.assembler) (p ∷ ps)
@@ -129,7 +129,7 @@ abbrev pub StepsTo : Readers → List ℕ → List Picture → Feeding → Optio
 StepsTo R g ps f None = HasTaken R f g ps
 StepsTo R g ps f (Some state) = SeeksTo R g ps f state
 
--- where its feed may be given more, or holds a picture
+-- Its feed may be given more, or lends a picture.
 abbrev pub IsLeftAs : Feeding → State → Type 0
 IsLeftAs f states.Waits = IsOpen f × IsSought f.reader.splitter
 IsLeftAs f states.Picture = HasPicture f.assembler
@@ -141,13 +141,13 @@ pub record StillSeeks (old f : Feeding) : Type 0 where
   pub closed : f.reader.closed ≡ old.reader.closed
   pub units : old.units ≤ f.units
 
--- what it came to by what it took
+-- The state after what it took,
 abbrev pub state_by : Taken → Option State
 state_by End = Some states.Ended
 state_by (Nal header place bytes accepted.PictureDone) = Some states.Picture
 state_by (Nal header place bytes what) = None
 
--- or why it took nothing, behind so many units
+-- or if it took nothing, after n units.
 abbrev pub stopped_by : FeedFault → ℕ → State
 stopped_by (faults.Refused r) n = states.Refused r n
 stopped_by fault n = states.NoMemory

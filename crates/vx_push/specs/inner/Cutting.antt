@@ -1,4 +1,4 @@
--- The steps of a cutter.
+-- The steps of a cutter. Our own.
 use Rattle.std.specs.Prelude.{◌≡◌, ℕ, ◌+◌, ◌-◌, ◌^◌, ◌<◌, Bool, true, false, List, [], ◌∷◌, ◌++◌, Option, Some, None, Result, Ok, Err}
 use Rattle.vx_bits.specs.declared.refusal.Refusal.TheVariants.{Extract}
 use Rattle.vx_bits.specs.declared.rules.TheConstants.{NO_PICTURE}
@@ -26,13 +26,13 @@ use Rattle.vx_push.specs.declared.cutter.Cut.TheVariants.{Picture as ToPicture, 
 use Rattle.vx_push.specs.Comes.{Intaking, Handed}
 use Rattle.vx_push.specs.Cutting.{Cutting, HasCut, HoldsPicture, IsAwaited, HasEndedBy}
 
--- where a source has ended behind n pictures: there has to be one
+-- A source has ended after n pictures: there has to be one.
 abbrev pub EndsBehind : ℕ → Cut → Type 0
 EndsBehind n ToEnd = 0 < n
 EndsBehind n (ToStop stop) = (n ≡ 0) × (stop ≡ Refused (Extract NO_PICTURE) (places.Picture 0))
 EndsBehind n _ = ⊥
 
--- what an intake that has come to this, and holds no picture, keeps a cutter from, behind n pictures
+-- What keeps a cutter from going on after n pictures, if its intake is in this state and lends no picture.
 abbrev pub HaltsBy : State → ℕ → Cut → Type 0
 HaltsBy states.Waits n cut = cut ≡ ToWait
 HaltsBy states.Picture n cut = ⊥
@@ -40,14 +40,14 @@ HaltsBy states.Ended n cut = EndsBehind n cut
 HaltsBy (states.Refused r u) n cut = cut ≡ ToStop (Refused r (places.Unit 0 u))
 HaltsBy states.NoMemory n cut = cut ≡ ToStop NoMemory
 
--- what stops it where the n-th picture isn't written; a sink in memory fails for want of it alone
+-- What stops it if picture n isn't written; a sink in memory fails only for lack of it.
 abbrev pub stop_by : WriteError → ℕ → Stop
 stop_by (errors.Refused r) n = stop_of_write (errors.Refused r) n
 stop_by errors.SinkFailed n = NoMemory
 stop_by errors.Memory n = NoMemory
 stop_by (errors.Stopped first) n = NoMemory
 
--- what became of a picture behind n others: it was written, with these bytes, or left out; or why neither
+-- What happened to a picture after n others: it was written, with these bytes, or left out; or why neither.
 abbrev pub CutsKept : Bool → Parts → List Plan → Extracting → List ℕ → Option Kind → Type 0
 CutsKept true q done x bytes kept =
     (kept ≡ Some q.kind)
@@ -60,7 +60,7 @@ Cuts q done x bytes n (Err (ToStop (Refused r place))) = (refusal_of x.target x.
 Cuts q done x bytes n (Err (ToStop NoMemory)) = Unit {0}
 Cuts q done x bytes n (Err _) = ⊥
 
--- what is kept of an answer: the end
+-- What is kept of a result: the end.
 abbrev pub end_by : Cut → Option Cut
 end_by ToPicture = None
 end_by ToWait = None
@@ -76,7 +76,7 @@ StepsTo R t c h ps done (Err ToWait) = HasCut R t c h ps done × IsAwaited R h p
 StepsTo R t c h ps done (Err ToPicture) = ⊥
 StepsTo R t c h ps done (Err end) = HasCut R t (record c { end = Some end }) h ps done × HasEndedBy R t h ps end
 
--- how many units there may be behind the picture that is held, and none where there is no picture; each picture that is passed leaves fewer
+-- How many units there may be after the picture that is lent, and none if there is no picture; each picture that is passed leaves fewer.
 abbrev pub units_by : State → ℕ → ℕ
 units_by states.Picture n = 2 ^ 40 + 1 - n
 units_by state n = 0

@@ -1,4 +1,4 @@
--- The steps of a mixer: what its intakes have come to in a round, and what is merged of it.
+-- The steps of a mixer: the states of its intakes in a round, and what is merged of it. Our own.
 use Rattle.std.specs.Prelude.{◌≡◌, ◌⊎◌, ℕ, ◌+◌, ◌<◌, ◌≤◌, Bool, true, false, List, [], ◌∷◌, ◌++◌, length, map, get_or, slice_get, Option, Some, None, Result, Ok, Err}
 use Rattle.vx_annexb.specs.Laws.{written}
 use Rattle.vx_pic.specs.declared.kind.Kind.{Kind}
@@ -29,7 +29,7 @@ use Rattle.vx_push.specs.Mixing.{HasComeBehind}
 
 -- ---- one source
 
--- What an intake that has come so far, behind n pictures that were merged, tells of its stream.
+-- What an intake in this state, after n pictures that were merged, means for its stream.
 abbrev pub IsSo : State → Intaking → ℕ → Stream → Type 0
 IsSo AtWait i n s = Unit {0}
 IsSo AtPicture i n s = (p : StreamPicture) × (picture_in n s ≡ Some p) × (lent_by i.feed.assembler ≡ parts_of p)
@@ -39,23 +39,23 @@ IsSo AtNoMemory i n s = Unit {0}
 
 -- ---- all sources, in order
 
--- it has ended, or holds a picture
+-- It has ended, or holds a picture.
 abbrev pub mark_of : Bool → State
 mark_of true = AtEnd
 mark_of false = AtPicture
 
--- the first k of them do, as they are marked
+-- The first k of them do, as they are marked.
 abbrev pub AreMarked : List Intaking → List Bool → ℕ → Type 0
 AreMarked intakes marks k = (j : ℕ) (i : Intaking) → j < k → slice_get intakes j ≡ Some i → i.state ≡ mark_of (get_or marks j false)
 
--- the k-th keeps a round from being merged: it waits, or is stopped
+-- The k-th keeps a round from being merged: it waits, or is stopped.
 abbrev pub HaltsBy : State → ℕ → Mixed → Type 0
 HaltsBy AtWait k answer = answer ≡ ToWait k
 HaltsBy (AtRefusal r units) k answer = answer ≡ ToStop (Refused r (places.Unit k units))
 HaltsBy AtNoMemory k answer = answer ≡ ToStop NoMemory
 HaltsBy _ k answer = ⊥
 
--- it is the first that does
+-- It is the first that does.
 pub record HaltsFirst (intakes : List Intaking) (answer : Mixed) : Type 0 where
   pub k : ℕ
   pub intake : Intaking
@@ -69,33 +69,33 @@ pub record AreSeen (intakes : List Intaking) (marks : List Bool) : Type 0 where
   pub count : length marks ≡ length intakes
   pub marked : AreMarked intakes marks (length intakes)
 
--- Where none keeps round n from being merged: all have ended; or some have, and others not.
+-- None keeps round n from being merged: all have ended; or some have, and others not.
 abbrev pub EndsSo : List Bool → ℕ → Mixed → Type 0
 EndsSo marks n ToEnd = IsLengths marks AllEnd
 EndsSo marks n (ToStop stop) = (k : ℕ) × IsLengths marks (Differ k) × (stop ≡ length_refused n k)
 EndsSo marks n _ = ⊥
 
--- What is seen of them in round n: each holds a picture; or this keeps it from being merged.
+-- What is seen of them in round n: each lends a picture; or this keeps it from being merged.
 abbrev pub Looks : List Intaking → ℕ → Result (Unit {0}) Mixed → Type 0
 Looks intakes n (Ok _) = (marks : List Bool) × AreSeen intakes marks × IsLengths marks AllGo
 Looks intakes n (Err answer) = HaltsFirst intakes answer ⊎ ((marks : List Bool) × AreSeen intakes marks × EndsSo marks n answer)
 
--- the pictures that they lend
+-- The pictures that they lend.
 abbrev pub round_of : List Intaking → List Parts
 round_of intakes = map (λ i. lent_by i.feed.assembler) intakes
 
--- intakes to which nothing was handed in
+-- Intakes to which nothing was pushed.
 abbrev pub AreNew : List Intaking → Type 0
 AreNew intakes = (k : ℕ) (i : Intaking) → slice_get intakes k ≡ Some i → (i.state ≡ AtWait) × ((R : Readers) → HasCome R i nothing [])
 
 -- ---- a round
 
--- what stops a mixer where round n isn't merged: a sink in memory fails for want of it alone
+-- What stops a mixer if round n isn't merged: a sink in memory fails only for lack of it.
 abbrev pub stop_by : WriteError → ℕ → Stop
 stop_by SinkFailed n = NoMemory
 stop_by error n = stop_of_write error n
 
--- What came of round n of these pictures, behind others: it is merged so, as a picture of this kind; or barred; or there was no memory.
+-- The result of round n of these pictures, after others: it is merged so, as a picture of this kind; or barred; or there was no memory.
 abbrev pub MergesHanded : List Parts → List Plan → Merging → List ℕ → ℕ → Result Kind Stop → Type 0
 MergesHanded round done m bytes n (Ok kind) =
     (p : Plan) × Passes m.corners m.level round done p × (bytes ≡ written (units_of p)) × Stands m (p ∷ done) × (kind ≡ p.kind)
@@ -103,7 +103,7 @@ MergesHanded round done m bytes n (Err (Refused r place)) = IsBarred m.corners m
 MergesHanded round done m bytes n (Err NoMemory) = Unit {0}
 MergesHanded round done m bytes n (Err _) = ⊥
 
--- what it came to is kept where it is an end
+-- A result is kept if it is an end.
 abbrev pub end_by : Mixed → Option Mixed
 end_by ToEnd = Some ToEnd
 end_by (ToStop stop) = Some (ToStop stop)
@@ -111,22 +111,22 @@ end_by _ = None
 
 -- ---- what goes on
 
--- more was handed in of each, or of some
+-- More was pushed of each, or of some.
 pub record AreMore (given more : List Handed) : Type 0 where
   pub count : length more ≡ length given
   pub each : (k : ℕ) (h : Handed) → slice_get given k ≡ Some h → (later : Handed) × (slice_get more k ≡ Some later) × IsMore h later
 
--- an intake that held a picture has gone on behind that
+-- An intake that lent a picture has advanced past it.
 abbrev pub HasPassed : Intaking → Intaking → Type 0
 HasPassed i later = (R : Readers) → AreOfH266 R → (h : Handed) (n : ℕ) → HasComeBehind R i h n → HasComeBehind R later h (n + 1)
 
--- the first k of those that did have, and the others are as they were
+-- The first k of those that did have, and the others are as they were.
 pub record ArePassing (intakes later : List Intaking) (k : ℕ) : Type 0 where
   pub count : length later ≡ length intakes
   pub passed : (j : ℕ) (i : Intaking) → j < k → slice_get intakes j ≡ Some i → i.state ≡ AtPicture → (l : Intaking) × (slice_get later j ≡ Some l) × HasPassed i l
   pub same : (j : ℕ) → k ≤ j → slice_get later j ≡ slice_get intakes j
 
--- each has
+-- Each has.
 pub record HavePassed (intakes later : List Intaking) : Type 0 where
   pub count : length later ≡ length intakes
   pub each : (k : ℕ) (i : Intaking) → slice_get intakes k ≡ Some i → i.state ≡ AtPicture → (j : Intaking) × (slice_get later k ≡ Some j) × HasPassed i j

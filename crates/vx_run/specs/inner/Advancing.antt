@@ -92,7 +92,7 @@ pub record AreWaiting {A : Type 0} (R : Readers) (sources : Sources A) (feeds : 
   pub rounds : OfAll (λ k ps. length ps ≡ n) taken
   pub waits : OfFed (λ k f ps. Waits R (source_at sources k) f ps) feeds taken
 
--- The first k of them were gone on with.
+-- The first k of them were advanced.
 pub record AreAdvancing {A : Type 0} (R : Readers) (sources : Sources A) (feeds : List Feeding) (taken : List (List Picture)) (n : ℕ)
     (ended : List Bool) (k : ℕ) : Type 0 where
   pub feeds_count : length feeds ≡ length sources.old
@@ -167,7 +167,7 @@ GoesBy of_length ended n (Ok true) = IsLengths ended AllGo
 GoesBy of_length ended n (Ok false) = IsLengths ended lengths.AllEnded
 GoesBy of_length ended n (Err stop) = (k : ℕ) × IsLengths ended (Differ k) × (stop ≡ of_length n k)
 
--- All were gone on with: one more picture of each was taken; or all have ended; or the command is stopped.
+-- All were advanced: one more picture of each was taken; or all have ended; or the command is stopped.
 abbrev pub AdvancesAll : {A : Type 0} → (ℕ → ℕ → Stop) → Readers → Sources A → List Feeding → List (List Picture) → ℕ → Result Bool Stop → Type 0
 AdvancesAll of_length R sources feeds taken n (Ok true) = AllTake R sources feeds taken n
 AdvancesAll of_length R sources feeds taken n (Ok false) = AllEnd R sources taken n
