@@ -1,4 +1,4 @@
--- The sets that are rewritten for the frame of a round make up a picture that is the frame.
+-- The sets that are rewritten for the frame of a round make up a picture that is the frame. Our own.
 use Rattle.std.specs.List.{AllByRecursion}
 use Rattle.std.specs.Prelude.{◌≡◌, ℕ, ◌<◌, true, false, List, length, Option, None}
 use Rattle.vx_bits.specs.declared.list.Item.{Item}

@@ -1,4 +1,4 @@
--- Definitions that the laws of this crate cite.
+-- The definitions that the laws of this crate cite.
 pub mod Sources
 pub mod Played
 pub mod Frames

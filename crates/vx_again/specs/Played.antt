@@ -1,4 +1,4 @@
--- The pictures of files that are played one behind another can be merged.
+-- The pictures of files that are played one after another can be merged. Our own.
 use Rattle.std.specs.List.{AllByRecursion}
 use Rattle.std.specs.Prelude.{◌≡◌, ℕ, ◌++◌, Bool, List, []}
 use Rattle.vx_pic.specs.Joined.{AreJoined, StartWhere, one_behind_another, played}
@@ -6,8 +6,8 @@ use Rattle.vx_pic.specs.Readings.{Picture}
 use Rattle.vx_pic.specs.Rules.{Readers}
 use Rattle.vx_again.specs.Sources.{CanBeMerged}
 
--- Where those of each file can be, so can the first ones of all as they are played, one file behind another, if each of these that is joined
--- may come first behind a join.
+-- If those of each file can be merged, then so can the first ones of all as they are played, one file after another, if each of these
+-- that is joined may come first after a join.
 abbrev pub PlayedCanBeMerged : Type 0
 PlayedCanBeMerged =
     (R : Readers) (joins : ℕ → Bool) (files : List (List Picture)) (later ps : List Picture) → AreJoined joins files

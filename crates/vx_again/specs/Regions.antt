@@ -1,5 +1,4 @@
--- The regions of pictures that are read again: each stands at its corner, and has the kinds and the decoding inputs of its source.
--- Our own.
+-- The regions of pictures that are read again: each is at its corner, and has the kinds and the decoding inputs of its source. Our own.
 use Rattle.std.specs.List.{AllByRecursion}
 use Rattle.std.specs.Prelude.{◌≡◌, ℕ, ◌*◌, true, false, List, length, map, slice_get, Option, Some}
 use Rattle.vx_bits.specs.declared.list.Item.{Item}

@@ -1,4 +1,4 @@
--- What is written for one round is read again as it says.
+-- What is written for one round is read again as it says. Our own.
 use Rattle.std.specs.List.{AllByRecursion}
 use Rattle.std.specs.Prelude.{◌≡◌, ℕ, List, map, slice_get, Option, Some, None}
 use Rattle.vx_pic.specs.Alike.{AlikeForCounts}
@@ -56,14 +56,14 @@ MergedSetsAreInForce =
 
 -- ---- counts, and decoding inputs
 
--- Its header tells the same of counts as that of each picture of the round.
+-- Its header agrees with that of each picture of the round in all that counts depend on.
 abbrev pub MergedIsAlike : Type 0
 MergedIsAlike =
     (corners : List Corner) (level : Option ℕ) (pics : List Picture) (done : List Plan) (p : Plan)
     → IsReadyRound corners (map parts_of pics) → Judges corners (map parts_of pics) None → IsMerged corners level (map parts_of pics) done p
     → AllByRecursion (λ q. AlikeForCounts q.begun p.begun) pics
 
--- Read again, region k has the decoding inputs of source k, where all pictures are of its kind.
+-- Read again, region k has the decoding inputs of source k, if all pictures are of its kind.
 abbrev pub MergedKeepsInputs : Type 0
 MergedKeepsInputs =
     (corners : List Corner) (level : Option ℕ) (pics : List Picture) (done : List Plan) (p : Plan)

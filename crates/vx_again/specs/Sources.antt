@@ -1,4 +1,4 @@
--- What is known of the pictures of a source that are merged, so that what is written of them can be read again.
+-- What is known of the pictures of a source that are merged, so that what is written of them can be read again. Our own.
 use Rattle.std.specs.List.{AllByRecursion, range_with_len}
 use Rattle.std.specs.Prelude.{◌≡◌, ℕ, ◌<◌, ◌≤◌, ◌==◌, true, false, IsTrue, List, [], length, map, filter, drop, All}
 use Rattle.vx_fields.specs.declared.sps.TheConstants as sps
@@ -35,9 +35,9 @@ pub record HasOwnMaps (q : Parts) : Type 0 where
   pub scaling : IsTrue (has_scaling q) → is_set (number q.sps sps.sps_explicit_scaling_list_enabled_flag) ≡ true
   pub chroma : is_set (number q.sps sps.sps_chroma_format_idc) ≡ false → is_chroma_scaled q ≡ false
 
--- A slice of it. Its header is one that is read there: of one of the picture's subpictures, with the address and the lists that its items
--- tell, and a QP in range. It has a payload, which stands in the unit with emulation bytes; the sets that it names are there; and it has a
--- filter only where the SPS enables one (7.3.7).
+-- A slice of it. Its header is read there: of one of the picture's subpictures, with the address and the lists of its items, and a QP in
+-- range. It has a payload, which is in the unit with emulation prevention bytes; the sets that it names are there; and it has a filter
+-- only if the SPS enables one (7.3.7).
 pub record IsSourceSlice (q : Parts) (s : SlicePart) : Type 0 where
   pub read : IsReadAt (at_sets q.kind.nal_type q.sps q.pps q.header q.ids q.layout) s.header
   pub subpic : s.header.subpic < subpics_of q.sps

@@ -15,7 +15,7 @@ use Rattle.vx_again.specs.Sources.{CanBeMerged}
 
 -- ---- rounds
 
--- the last picture of each of several streams, and those before it
+-- The last picture of each of several streams, and those before it.
 abbrev pub lasts : List (List Picture) → List (Option Picture)
 lasts sources = map (λ ps. slice_get ps 0) sources
 
@@ -38,7 +38,7 @@ pub record AreWrittenSo (R : Readers) (corners : List Corner) (level : Option �
   pub can : AllByRecursion (CanBeMerged R) sources
   pub merged : AreMerged corners level sources done
 
--- The plans are as plans have to be, and their pictures have the kinds of those of each stream, with headers that tell the same of counts.
+-- The plans are valid, and their pictures have the kinds of those of each stream, with headers that agree in all that counts depend on.
 abbrev pub MergedArePlanned : Type 0
 MergedArePlanned =
     (R : Readers) (corners : List Corner) (level : Option ℕ) (sources : List (List Picture)) (done : List Plan) → AreOfH266 R

@@ -1,4 +1,4 @@
--- A structure: a table, a part in direct style, and a table; and what is claimed of it.
+-- A structure: a table, a part in direct style, and a table; and claims on it. Our own.
 use Rattle.std.specs.Prelude.{◌≡◌, ℕ, ℤ, ◌+◌, ◌-◌, zero, suc, Bool, true, false, List, [], ◌∷◌, ◌++◌, slice_index}
 use Rattle.vx_bits.specs.declared.list.Item.{Item}
 use Rattle.vx_table.specs.declared.rows.Coding.TheVariants.{Golomb}
@@ -16,7 +16,7 @@ use Rattle.vx_table.specs.Shown.{shown_items}
 use Rattle.vx_table.specs.Rewritten.{IsRewritten}
 use Rattle.vx_table.specs.Rewrites.{Takes}
 
--- so many shares of what is left of a total, each at least 1 and spelled less 1: no table can say the range of one
+-- n shares of what is left of a total, each at least 1 and coded minus 1: no table can state the range of one.
 abbrev pub share : ℕ → Cell ℕ
 share left = record { field = 33; kept = true; coding = Golomb; limits = Below left OutOfRange }
 
@@ -27,18 +27,18 @@ abbrev pub shares : List ℕ → ℕ → ℕ → Form (List ℕ)
 shares s zero left = done s
 shares s (suc more) left = one_share left >>= shares s more
 
--- field 30 says how many, and field 31 the total
+-- Field 30 says how many, and field 31 the total.
 abbrev pub shares_of : List ℕ → Form (List ℕ)
 shares_of s = shares s (slice_index s 30) (slice_index s 31)
 
 unfoldable pub composite : List Row → List Row → List ℕ → Form (List ℕ)
 composite front behind s = form_of front s >>= λ t. shares_of t >>= form_of behind
 
--- all its fields depend on nothing
+-- All its fields depend on nothing.
 abbrev pub CompositeDepends : List Row → List Row → Type 0
 CompositeDepends front behind = DependsOnlyOn [] (30 ∷ 31 ∷ 32 ∷ 33 ∷ 34 ∷ 35 ∷ 36 ∷ []) (composite front behind)
 
--- wrong claims: the table behind reads 32, and 30, which aren't known where they aren't shown
+-- Wrong claims: the table after it reads 32, and 30, which aren't known if they aren't shown.
 abbrev pub is_claimed : List ℕ → List Row → List Row → Bool
 is_claimed shown front behind = table_depends shown (behind_table shown [] front) behind
 
@@ -46,7 +46,7 @@ abbrev pub WrongClaimsFail : List Row → List Row → Type 0
 WrongClaimsFail front behind = (is_claimed (30 ∷ 31 ∷ 33 ∷ 34 ∷ 35 ∷ 36 ∷ []) front behind ≡ false)
     × (is_claimed (31 ∷ 32 ∷ 33 ∷ 34 ∷ 35 ∷ 36 ∷ []) front behind ≡ false)
 
--- the fields of the two tables
+-- The fields of the two tables.
 abbrev pub of_tables : List ℕ
 of_tables = 30 ∷ 31 ∷ 32 ∷ 34 ∷ 35 ∷ 36 ∷ []
 

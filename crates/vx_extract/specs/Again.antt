@@ -1,4 +1,4 @@
--- What is written is read again: what the rewritten sets of a picture's subpicture make up.
+-- What is written is read again: what the rewritten sets of a picture's subpicture make up. Our own. The laws of this crate state it.
 use Rattle.std.specs.List.{AllByRecursion}
 use Rattle.std.specs.Prelude.{◌≡◌, ℕ, ◌<◌, ◌≤◌, Bool, true, false, IsTrue, List, [], ◌∷◌, length, map, All, Option, Ok}
 use Rattle.vx_bits.specs.declared.list.Item.{Item}
@@ -55,7 +55,7 @@ RewrittenMakeRegion =
     (target : ℕ) (level : Option ℕ) (q : Parts) (sps pps : List Item) → AreInForce q → target < subpics_of q.sps
     → AreRewritten target level q sps pps → MakeRegion target q sps pps
 
--- They have the ids of the sets that they stand for.
+-- They have the ids of the sets that they replace.
 pub record KeepIds (q : Parts) (sps pps : List Item) : Type 0 where
   pub of_sps : sps_id sps ≡ sps_id q.sps
   pub of_pps : pps_id pps ≡ pps_id q.pps
@@ -78,8 +78,8 @@ RewrittenKeepFields =
     (target : ℕ) (level : Option ℕ) (q : Parts) (sps pps : List Item) → AreInForce q → target < subpics_of q.sps
     → AreRewritten target level q sps pps → KeepFields q sps pps
 
--- All that a picture header or a slice header finds in them is the source's: the structures of reference picture lists, and the lists
--- that a header comes to; the numbers that picture headers depend on, and those that slice headers do.
+-- All that a picture header or a slice header finds in them is the source's: the structures of reference picture lists, and the lists of
+-- a header; the numbers that picture headers depend on, and those that slice headers depend on.
 pub record AgreeForHeaders (q : Parts) (sps pps : List Item) : Type 0 where
   pub same_structures : structures sps ≡ structures q.sps
   pub lists : (header : List Item)
@@ -95,7 +95,7 @@ RewrittenAgree =
 
 -- ---- what is read under them
 
--- what stands before the slices of a picture, and of the subpicture with these sets
+-- What comes before the slices of a picture, and of the subpicture with these sets.
 abbrev pub begun_in : Parts → Begun
 begun_in q = record {
   sps = q.sps;
@@ -116,7 +116,7 @@ begun_alone target q sps pps = record {
   unit = q.unit;
 }
 
--- a slice header of the one subpicture
+-- A slice header of the one subpicture.
 abbrev pub header_alone : SliceHeader → SliceHeader
 header_alone h = record { fields = h.fields; subpic = 0; payload = h.payload }
 
@@ -142,7 +142,7 @@ ExtractedUnitsAreRead =
     → AreOfH266 R → IsSoundPicture R earlier picture → is_whole picture ≡ true → AreInForce (parts_of picture)
     → target < subpics_of picture.begun.sps → IsExtracted target level (parts_of picture) done p → UnitsAreRead R p
 
--- They are all of a picture where that has all slices of its subpictures.
+-- They are all of a picture if that has all slices of its subpictures.
 abbrev pub ExtractedIsWhole : Type 0
 ExtractedIsWhole =
     (target : ℕ) (level : Option ℕ) (picture : Picture) (done : List Plan) (p : Plan) → HasAllInOrder picture
@@ -161,7 +161,7 @@ ExtractedHasItsBodies =
     (target : ℕ) (level : Option ℕ) (q : Parts) (done : List Plan) (p : Plan) → AreInForce q → HasReadableSets q
     → AreThere q.bodies (named_in q target) → (ex : IsExtracted target level q done p) → HasItsBodies ex.needed p
 
--- Its header tells the same of counts as the picture's.
+-- Its header agrees with the picture's in all that counts depend on.
 abbrev pub ExtractedIsAlike : Type 0
 ExtractedIsAlike =
     (target : ℕ) (level : Option ℕ) (picture : Picture) (done : List Plan) (p : Plan)
@@ -169,9 +169,9 @@ ExtractedIsAlike =
 
 -- ---- all of them
 
--- What is known of a picture of a stream, of which the subpicture is written: the facts of its sets; it has the subpicture, and all
--- slices of each; its adaptation parameter sets can be written, and those that the subpicture's slices name are there; and its messages
--- are carried.
+-- What is known of a picture of a stream whose subpicture is written: the facts of its sets; it has the subpicture, and all slices of
+-- each; its adaptation parameter sets can be written, and those that the subpicture's slices name are there; and its messages are
+-- carried.
 pub record IsReady (target : ℕ) (picture : Picture) : Type 0 where
   pub in_force : AreInForce (parts_of picture)
   pub has : target < subpics_of picture.begun.sps
@@ -180,7 +180,7 @@ pub record IsReady (target : ℕ) (picture : Picture) : Type 0 where
   pub there : AreThere (parts_of picture).bodies (named_in (parts_of picture) target)
   pub carried : All (λ m. IsTrue (is_carried m.kind)) (messages_of picture)
 
--- What is written for whole pictures that were read is as plans have to be, so that it is read again, and has the counts of these
+-- The plans of what is written for whole pictures that were read are valid, so that it is read again, and have the counts of these
 -- pictures.
 abbrev pub ExtractedArePlanned : Type 0
 ExtractedArePlanned =

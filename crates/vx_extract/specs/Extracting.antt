@@ -1,4 +1,5 @@
--- An extractor, as its callers see it: by these words, and by the relation `Stands` between it and the pictures that it has written.
+-- An extractor, as its callers see it: by these definitions, and by the relation `Stands` between it and the pictures that it has
+-- written. Our own.
 use Rattle.std.specs.Prelude.{◌≡◌, ℕ, ◌<◌, Bool, true, false, List, ◌∷◌, length, Option, Some, None, Result, Ok, Err}
 use Rattle.std.specs.Io.KnownBytes.{Appends}
 use Rattle.vx_io.specs.Faults.{Rose}
@@ -14,8 +15,8 @@ use Rattle.vx_extract.specs.Rules.{is_kept, refusal_of}
 use Rattle.vx_extract.specs.Written.{extracted_slices, IsExtracted}
 use Rattle.vx_write.specs.Slots.{Sent, held_serves}
 
--- an extractor: the subpicture, the level that is asked for, the highest TemporalId that is kept, the sets that were sent since the last
--- IRAP or GDR picture, the last of each type and id, and what first kept it from going on
+-- An extractor: the subpicture, the level that is asked for, the highest TemporalId that is kept, the sets that were sent since the last
+-- IRAP or GDR picture, the last of each type and id, and its first error.
 pub record Extracting : Type 0 where
   pub target : ℕ
   pub level : Option ℕ
@@ -23,18 +24,18 @@ pub record Extracting : Type 0 where
   pub slots : List Sent
   pub first : Option WriteFirst
 
--- it has written these pictures, the latest first, and goes on
+-- It has written these pictures, the latest first, and goes on.
 pub record Stands (x : Extracting) (done : List Plan) : Type 0 where
   pub slots : (t : ℕ) (s : Set) → held_serves t s x.slots ≡ serves t s (last_of s (history_of done))
   pub going : x.first ≡ None
 
--- what stays whatever it answers: what was asked for
+-- What stays whatever a call returns: what was asked for.
 pub record SameTask (old new : Extracting) : Type 0 where
   pub target : new.target ≡ old.target
   pub level : new.level ≡ old.level
   pub tid : new.tid ≡ old.tid
 
--- the picture has a slice of the subpicture, as each picture of a stream has of each of its subpictures
+-- The picture has a slice of the subpicture, as each picture of a stream has of each of its subpictures.
 abbrev pub HasSlice : ℕ → Parts → Type 0
 HasSlice target q = 0 < length (extracted_slices q target)
 
@@ -44,8 +45,8 @@ WritesKept true q done new bytes bytes' =
     HasSlice new.target q → (p : Plan) × IsExtracted new.target new.level q done p × Appends bytes bytes' (written (units_of p)) × Stands new (p ∷ done)
 WritesKept false q done new bytes bytes' = (bytes' ≡ bytes) × Stands new done
 
--- The answer for a picture behind these: it breaks no rule, and was written or left out; it breaks a rule; memory ran out before a byte
--- was written; or a write failed, and a front of it is written.
+-- The result for a picture after these. It breaks no rule, and was written or left out; it breaks a rule; memory ran out before a byte
+-- was written; or a write failed, and a prefix of it is written.
 abbrev pub WritesPicture : Parts → List Plan → Extracting → Option (List ℕ) → Option (List ℕ) → ℕ → ℕ → Result (Unit {0}) WriteError → Type 0
 WritesPicture q done new bytes bytes' faults faults' (Ok _) =
     (refusal_of new.target new.tid q ≡ None) × (faults' ≡ faults) × WritesKept (is_kept new.tid q) q done new bytes bytes'

@@ -1,4 +1,5 @@
--- What decoding depends on is kept: the decoding inputs of the subpicture's slices, and the messages.
+-- What decoding depends on is kept: the decoding inputs of the subpicture's slices, and the messages. Our own. The laws of this crate
+-- state it.
 use Rattle.std.specs.List.{AllByRecursion}
 use Rattle.std.specs.Prelude.{◌≡◌, ℕ, ◌<◌, List, map, Option}
 use Rattle.vx_bits.specs.declared.list.Item.{Item}
@@ -18,7 +19,7 @@ use Rattle.vx_write.specs.InForce.{AreInForce}
 
 -- ---- places
 
--- a picture with these sets, and the region of its subpicture as the layout
+-- A picture with these sets, and the region of its subpicture as the layout.
 abbrev pub region_in : ℕ → Parts → (sps pps : List Item) → Parts
 region_in target q sps pps = record q { sps = sps; pps = pps; layout = region_of q.layout target }
 

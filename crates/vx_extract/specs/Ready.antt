@@ -1,4 +1,4 @@
--- The pictures of a stream: a subpicture of each that is kept can be written so that it is read again.
+-- The pictures of a stream: a subpicture of each that is kept can be written so that it is read again. Our own.
 use Rattle.std.specs.List.{AllByRecursion}
 use Rattle.std.specs.Prelude.{ℕ, ◌<◌, IsTrue, List, All}
 use Rattle.vx_sei.specs.Sei.{is_carried}

@@ -8,7 +8,7 @@ use Rattle.vx_sps.specs.Subpictures.{subpics_of, is_treated, is_filtered}
 use Rattle.vx_pic.specs.Units.{is_irap_or_gdr}
 use Rattle.vx_pic.specs.Parts.{Parts}
 
--- the picture belongs to a sublayer that is kept (H.266 C.6)
+-- The picture belongs to a sublayer that is kept (H.266 C.6).
 abbrev pub is_kept : ℕ → Parts → Bool
 is_kept tid q = nat_le q.kind.temporal_id tid
 
@@ -20,11 +20,11 @@ rule_of_kept target q =
     (cond (not (is_treated q.sps target)) (Some rules.NOT_TREATED_AS_PICTURE)
     (cond (is_filtered q.sps target) (Some rules.FILTERED_ACROSS) None))
 
--- that one breaks which is left out: it is an IRAP or GDR picture, and those behind it couldn't be decoded
+-- A picture that is left out breaks this: it is an IRAP or GDR picture, and later ones couldn't be decoded.
 abbrev pub rule_of_dropped : Parts → Option ℕ
 rule_of_dropped q = cond (is_irap_or_gdr q.kind.nal_type) (Some rules.IRAP_DROPPED) None
 
--- the first rule that the picture breaks, and the refusal that names it
+-- The first rule that the picture breaks, and the refusal that names it.
 abbrev pub rule_of : (target tid : ℕ) → Parts → Option ℕ
 rule_of target tid q = cond (is_kept tid q) (rule_of_kept target q) (rule_of_dropped q)
 

@@ -1,4 +1,4 @@
--- What the sets say that are sent for a subpicture of a picture (H.266 7.4.3.4, 7.4.3.5).
+-- What the sets that are sent for a subpicture say (H.266 7.4.3.4, 7.4.3.5).
 use Rattle.std.specs.Prelude.{ℕ, pos, ◌+◌, ◌==◌, Bool, false, cond, List, [], ◌∷◌, slice_index, Option, Some, None, unwrap_or}
 use Rattle.vx_bits.specs.declared.list.Item.{Item}
 use Rattle.vx_fields.specs.declared.ptl.TheConstants.{general_level_idc}
@@ -37,11 +37,11 @@ id_in q target = slice_index q.ids target
 
 -- ---- the SPS (C.7)
 
--- an offset of the source's window, where the subpicture touches that edge of the picture (C.7)
+-- An offset of the source's window, if the subpicture touches that edge of the picture (C.7).
 abbrev pub offset : List Item → Bool → ℕ → ℕ
 offset source touches of = cond touches (number source of) 0
 
--- left, right, top and bottom (C.7)
+-- Left, right, top and bottom (C.7).
 abbrev pub window_of : List Item → Rect → List ℕ
 window_of source r =
     offset source (r.x == 0) sps.sps_conf_win_left_offset
@@ -49,22 +49,22 @@ window_of source r =
     ∷ offset source (r.y == 0) sps.sps_conf_win_top_offset
     ∷ offset source (r.y + r.h == ctu_rows_of source) sps.sps_conf_win_bottom_offset ∷ []
 
--- the DPB parameters of the source's highest sublayer, which come last (our own choice)
+-- The DPB parameters of the source's highest sublayer, which come last (our own choice).
 abbrev pub dpb_of : List Item → List ℕ
 dpb_of source =
     number source dpb.dpb_max_dec_pic_buffering_minus1 ∷ number source dpb.dpb_max_num_reorder_pics
     ∷ number source dpb.dpb_max_latency_increase_plus1 ∷ []
 
--- the id of the subpicture stands in the SPS, unless the source's ids stand in the PPS (our own choice)
+-- The id of the subpicture stands in the SPS, unless the source's ids stand in the PPS (our own choice).
 abbrev pub id_in_sps : Parts → ℕ → Option ℕ
 id_in_sps q target = cond (needs_ids q.sps) None (Some (id_in q target))
 
--- one subpicture with the target's id, where the source speaks of subpictures (our own choice)
+-- One subpicture with the target's id, if the source describes subpictures (our own choice).
 abbrev pub plan_of : Parts → ℕ → SubpicPlan
 plan_of q target =
     cond (is_set (number q.sps sps.sps_subpic_info_present_flag)) (One (number q.sps sps.sps_subpic_id_len_minus1) (id_in_sps q target)) Absent
 
--- the level that is asked for, or else the source's (our own choice)
+-- The level that is asked for, or else the source's (our own choice).
 abbrev pub level_of : List Item → Option ℕ → ℕ
 level_of source level = unwrap_or level (number source general_level_idc)
 
@@ -82,12 +82,12 @@ sps_shape q target level = record {
 
 -- ---- the PPS (C.7)
 
--- the id of the subpicture stands there where the source's ids do: the bits of an id, less 1, and the id (our own choice)
+-- The id of the subpicture is in the PPS if the source's ids are there: the bits of an id, minus 1, and the id (our own choice).
 abbrev pub id_in_pps : Parts → ℕ → Option (ℕ × ℕ)
 id_in_pps q target = cond (needs_ids q.sps) (Some (number q.sps sps.sps_subpic_id_len_minus1, id_in q target)) None
 
--- tiles and slices are the subpicture's (C.7), and whether loop filters cross their borders is the source's; where the source has
--- pps_no_pic_partition_flag 1 nothing is said of them, and the QP is said of a frame alone
+-- Tiles and slices are the subpicture's (C.7), and whether loop filters cross their borders is the source's. If the source has
+-- pps_no_pic_partition_flag 1, nothing is said of them. The QP is stated only for a frame.
 abbrev pub pps_shape : Parts → ℕ → PpsShape
 pps_shape q target = record {
   id = pps_id q.pps;

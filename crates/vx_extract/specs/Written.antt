@@ -22,7 +22,7 @@ use Rattle.vx_extract.specs.Shapes.{sps_shape, pps_shape}
 abbrev pub parts_in : Parts → ℕ → List SlicePart
 parts_in q target = filter (λ s. s.header.subpic == target) q.slices
 
--- a slice as it stands, of the one subpicture
+-- A slice as it stands, of the one subpicture.
 abbrev pub slice_alone : SlicePart → Slice
 slice_alone s = record { unit = s.unit; header = record { fields = s.header.fields; subpic = 0; payload = s.payload } }
 
@@ -31,7 +31,7 @@ extracted_slices q target = map slice_alone (parts_in q target)
 
 -- ---- sets
 
--- the types of adaptation parameter sets with eight ids each (LMCS has but 0 to 3, 7.4.3.6), by rising type and then by rising id
+-- The types of adaptation parameter sets with eight ids each (LMCS has but 0 to 3, 7.4.3.6), by rising type and then by rising id.
 abbrev pub slots_of : ℕ → List Slot
 slots_of kind = map (λ id. record { kind = kind; id = id }) (range_with_len 0 id_count)
 
@@ -41,33 +41,33 @@ all_slots = slots_of ALF ++ (slots_of LMCS ++ slots_of SCALING)
 abbrev pub same_type_and_id : Slot → Slot → Bool
 same_type_and_id a b = (a.kind == b.kind) && (a.id == b.id)
 
--- what the slices of the subpicture name: filters, and what the picture header names
+-- What the slices of the subpicture name: filters, and what the picture header names.
 abbrev pub named_in : Parts → ℕ → List Slot
 named_in q target = flat_map (λ s. aps_named_by q.pps q.header.fields s.header) (parts_in q target)
 
 abbrev pub is_named : Parts → ℕ → Slot → Bool
 is_named q target slot = list_any (same_type_and_id slot) (named_in q target)
 
--- the picture's set of a type and an id, where it has one
+-- The picture's set of a type and an id, if it has one.
 abbrev pub set_of_slot : Slot → Option Aps → List Set
 set_of_slot slot None = []
 set_of_slot slot (Some a) = an_aps (record { kind = slot.kind; id = slot.id; body = a.body }) ∷ []
 
--- the sets that are named
+-- The sets that are named.
 abbrev pub aps_of_slot : Parts → Slot → List Set
 aps_of_slot q slot = set_of_slot slot (aps_at q.bodies slot.kind slot.id)
 
 abbrev pub needed_aps : Parts → ℕ → List Set
 needed_aps q target = flat_map (aps_of_slot q) (filter (is_named q target) all_slots)
 
--- the sets that the picture needs: these two, and then adaptation parameter sets by rising type and id
+-- The sets that the picture needs: these two, and then adaptation parameter sets by rising type and id.
 abbrev pub needed_sets : Parts → ℕ → (sps pps : List Item) → List Set
 needed_sets q target sps pps = an_sps sps ∷ a_pps pps ∷ needed_aps q target
 
 -- ---- pictures
 
--- A picture is written so behind others: rewritten sets, of which those are sent that aren't resident; its messages; its header and
--- the slices of the subpicture as they stand, of which there is one at least (C.7).
+-- A picture is written so after others: rewritten sets, of which those that aren't resident are sent; its messages; its header and the
+-- slices of the subpicture as they are, of which there is one at least (C.7).
 pub record IsExtracted (target : ℕ) (level : Option ℕ) (q : Parts) (done : List Plan) (p : Plan) : Type 0 where
   pub sps : sps_reshaped.IsReshapedSps q.sps (sps_shape q target level) p.begun.sps
   pub pps : pps_reshaped.IsReshapedPps q.pps (pps_shape q target) p.begun.pps

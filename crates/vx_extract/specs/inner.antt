@@ -1,4 +1,4 @@
--- What serves bodies and proofs alone: nothing that a caller has to believe.
+-- Definitions that only bodies and proofs use: no caller has to believe them.
 pub mod Needed
 pub mod Rewritings
 pub mod Sending

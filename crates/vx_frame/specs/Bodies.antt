@@ -22,7 +22,7 @@ filters_of q s = bodies_in (alf_of q (filter_items q.pps q.header.fields (read_o
 abbrev pub filters_in : Parts → List (List ℕ)
 filters_in q = flat_map (filters_of q) q.slices
 
--- each body once, in the order in which they come first
+-- Each body once, in the order in which they come first.
 abbrev pub is_among : List ℕ → List (List ℕ) → Bool
 is_among body [] = false
 is_among body (b ∷ bodies) = same_bytes b body || is_among body bodies
@@ -43,14 +43,14 @@ alf_bodies round = once (flat_map filters_in round)
 
 -- ---- luma mapping with chroma scaling, and scaling lists
 
--- the picture header has them: ph_lmcs_enabled_flag, ph_explicit_scaling_list_enabled_flag (7.4.3.8)
+-- The picture header has them: ph_lmcs_enabled_flag, ph_explicit_scaling_list_enabled_flag (7.4.3.8).
 abbrev pub has_lmcs : Parts → Bool
 has_lmcs q = is_set (number q.header.fields ph.ph_lmcs_enabled_flag)
 
 abbrev pub has_scaling : Parts → Bool
 has_scaling q = is_set (number q.header.fields ph.ph_explicit_scaling_list_enabled_flag)
 
--- the bodies that it names (ph_lmcs_aps_id and ph_scaling_list_aps_id, 7.4.3.8)
+-- The bodies that it names (ph_lmcs_aps_id and ph_scaling_list_aps_id, 7.4.3.8).
 abbrev pub lmcs_body : Parts → Option (List ℕ)
 lmcs_body q = named_body q aps.LMCS ph.ph_lmcs_aps_id q.header.fields
 

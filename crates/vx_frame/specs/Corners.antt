@@ -2,11 +2,11 @@
 use Rattle.std.specs.Prelude.{◌<◌, ◌≤◌, List, All, length}
 use Rattle.vx_frame.specs.declared.corner.Corner.{Corner}
 
--- a corner that a region of a frame may have
+-- A corner that a region of a frame may have.
 abbrev pub IsCorner : Corner → Type 0
 IsCorner corner = (corner.x < 16384) × (corner.y < 16384)
 
--- one to 64 of them
+-- One to 64 of them.
 pub record AreCorners (corners : List Corner) : Type 0 where
   pub some : 0 < length corners
   pub few : length corners ≤ 64

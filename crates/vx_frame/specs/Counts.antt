@@ -1,7 +1,7 @@
 -- How many ids each type of sets has, from 0 up.
 use Rattle.std.specs.Prelude.{ℕ}
 
--- how many ids a type has (H.266 7.4.3.5, 7.4.3.6)
+-- How many ids a type has (H.266 7.4.3.5, 7.4.3.6).
 abbrev pub pps_slots : ℕ
 pps_slots = 64
 

@@ -1,4 +1,4 @@
--- Definitions that the contracts of this crate cite.
+-- The definitions that the contracts of this crate cite.
 pub mod Bodies
 pub mod Collocated
 pub mod Corners

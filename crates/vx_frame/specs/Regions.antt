@@ -1,4 +1,4 @@
--- The regions in which the pictures of a round are to stand, and the layouts in them. Our own.
+-- The regions of the pictures of a round, and the layouts in them. Our own.
 use Rattle.std.specs.Prelude.{ℕ, List, [], ◌∷◌, map}
 use Rattle.vx_fields.specs.declared.pps.TheConstants as pps
 use Rattle.vx_table.specs.Loaded.{number}
@@ -12,7 +12,7 @@ use Rattle.vx_pic.specs.Parts.{Parts}
 use Rattle.vx_frame.specs.declared.corner.Corner.{Corner}
 use Rattle.vx_frame.specs.Rounds.{picture_at}
 
--- a picture with its upper left corner here, in luma samples
+-- A picture with its upper left corner here, in luma samples.
 abbrev pub placed_at : Corner → Parts → Placed
 placed_at corner q = record {
   x = corner.x;
@@ -21,20 +21,20 @@ placed_at corner q = record {
   h = number q.pps pps.pps_pic_height_in_luma_samples;
 }
 
--- each picture at its corner
+-- Each picture at its corner.
 abbrev pub placed_in : List Corner → List Parts → List Placed
 placed_in (corner ∷ corners) (q ∷ round) = placed_at corner q ∷ placed_in corners round
 placed_in _ _ = []
 
--- CtbSizeY, which all have where their kept fields are the same (7.4.3.4)
+-- CtbSizeY, which all have if their kept fields are the same (7.4.3.4).
 abbrev pub ctb_of : List Parts → ℕ
 ctb_of round = ctb_size_of (picture_at round 0).sps
 
--- the regions in CTUs
+-- The regions in CTUs.
 abbrev pub corners_in : List Corner → List Parts → List Rect
 corners_in corners round = map (in_ctus (ctb_of round)) (placed_in corners round)
 
--- the layout of a picture's one subpicture
+-- The layout of a picture's one subpicture.
 abbrev pub layout_of : Parts → Numbers
 layout_of q = region_of q.layout 0
 

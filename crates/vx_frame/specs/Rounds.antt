@@ -1,11 +1,11 @@
--- A round: a picture of each source, in order. Each is to be a subpicture of one picture. Our own.
+-- A round: a picture of each source, in order. Each becomes a subpicture of one picture. Our own.
 use Rattle.std.specs.Prelude.{◌≡◌, ◌≢◌, ℕ, pos, Bool, false, IsTrue, List, [], length, flat_map, slice_get, Option, Some, None}
 use Rattle.std.specs.List.{AllByRecursion, slice_index_or}
 use Rattle.vx_fit.specs.FrameLines.{no_numbers}
 use Rattle.vx_fit.specs.Lowest.{IsLowest}
 use Rattle.vx_pic.specs.Parts.{Parts}
 
--- no picture: what stands past the end of a round
+-- No picture: what is past the end of a round.
 abbrev pub no_picture : Parts
 no_picture = record {
   kind = record { nal_type = 0; temporal_id = 0; clvss = false; after_eos = false; poc = pos 0 };
@@ -20,17 +20,17 @@ no_picture = record {
   messages = [];
 }
 
--- the picture of source k
+-- The picture of source k.
 abbrev pub picture_at : List Parts → ℕ → Parts
 picture_at round k = slice_index_or round k no_picture
 
 -- ---- how sources differ in something that is told of each picture
 
--- source k's is another than source 0's
+-- Source k's is another than source 0's.
 abbrev pub UnlikeFirst : {A : Type 0} → (Parts → A) → List Parts → ℕ → Type 0
 UnlikeFirst f round k = f (picture_at round k) ≢ f (picture_at round 0)
 
--- this holds of source k, and something of it is another than that of the lowest source of which it holds
+-- This holds of source k, and something of it differs from that of the lowest source of which it holds.
 abbrev pub UnlikeLowest : {A : Type 0} → (Parts → Bool) → (Parts → A) → List Parts → ℕ → Type 0
 UnlikeLowest has f round k =
     IsTrue (has (picture_at round k))

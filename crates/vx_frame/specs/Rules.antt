@@ -1,5 +1,5 @@
--- The rules by which the pictures of a round can't become one picture, with their corners in luma samples. Source 0 is the one that others
--- are compared with, unless said. Which rules there are is our own.
+-- The rules by which the pictures of a round can't become one picture, with their corners in luma samples. Others are compared with
+-- source 0, unless stated otherwise. Which rules there are is our own.
 use Rattle.std.specs.Prelude.{◌≡◌, ◌⊎◌, ℕ, ℤ, ◌+◌, ◌<◌, ◌==◌, Bool, cond, List, [], ◌∷◌, ◌++◌, length, map, flat_map, take, sum_by, unwrap_or, Option, Some, None}
 use Rattle.std.specs.Option.{option_or}
 use Rattle.vx_bits.specs.declared.list.Item.{Item}
@@ -35,7 +35,7 @@ use Rattle.vx_frame.specs.Verdict.{Rule, IsVerdict}
 
 -- ---- what is told of a broken rule
 
--- the source that breaks it
+-- The source that breaks it.
 abbrev pub of_source : ℕ → (ℕ → Type 0) → Rule
 of_source code breaks = record { breaks = breaks; tells = λ k. Merge code k 0 }
 
@@ -43,7 +43,7 @@ of_source code breaks = record { breaks = breaks; tells = λ k. Merge code k 0 }
 abbrev pub of_field : ℕ → (ℕ → Type 0) → (ℕ → ℕ) → Rule
 of_field code breaks field = record { breaks = breaks; tells = λ k. Merge code k (field k) }
 
--- a limit, which all sources pass together
+-- A limit, which all sources pass together.
 abbrev pub of_limit : ℕ → Type 0 → Rule
 of_limit code breaks = record { breaks = λ k. breaks; tells = λ k. Limit code }
 
@@ -53,8 +53,8 @@ of_limit code breaks = record { breaks = λ k. breaks; tells = λ k. Limit code 
 abbrev pub several_subpictures : List Parts → Rule
 several_subpictures round = of_source rules.SEVERAL_SUBPICTURES (λ k. 1 < subpics_of (picture_at round k).sps)
 
--- M2: the kept fields of its SPS are others, or its profile, its tier, or whether there are frames alone and one layer alone. The field
--- is that at which the kept fields differ, or else that of the four.
+-- M2: the kept fields of its SPS differ, or its profile, its tier, or whether there are only frames and only one layer. The field is that
+-- at which the kept fields differ, or otherwise that of the four.
 abbrev pub kept_sps : Parts → List Item
 kept_sps q = inputs.sps_fields q.sps
 
@@ -64,7 +64,7 @@ profile_fields = ptl.general_profile_idc ∷ ptl.general_tier_flag ∷ ptl.ptl_f
 abbrev pub profile_of : Parts → List ℕ
 profile_of q = map (number q.sps) profile_fields
 
--- the first of some fields of which two structures have other numbers
+-- The first of some fields whose numbers differ between two structures.
 abbrev pub differing_number : List ℕ → List Item → List Item → Option ℕ
 differing_number [] items others = None
 differing_number (of ∷ more) items others = cond (number items of == number others of) (differing_number more items others) (Some of)
@@ -72,7 +72,7 @@ differing_number (of ∷ more) items others = cond (number items of == number ot
 abbrev pub differing_profile : List Parts → ℕ → Option ℕ
 differing_profile round k = differing_number profile_fields (picture_at round k).sps (picture_at round 0).sps
 
--- the field at which two pictures differ in something
+-- The field at which two pictures differ in something.
 abbrev pub differing_in : (Parts → List Item) → List Parts → ℕ → Option ℕ
 differing_in f round k = differing_field (f (picture_at round k)) (f (picture_at round 0))
 

@@ -1,4 +1,4 @@
--- What the sets say that are sent for a frame of the pictures of a round (H.266 7.4.3.4, 7.4.3.5).
+-- What the sets of a frame of the pictures of a round say (H.266 7.4.3.4, 7.4.3.5).
 use Rattle.std.specs.Prelude.{◌≡◌, ℕ, ◌+◌, ◌==◌, min, max, Bool, true, false, cond, List, [], ◌∷◌, map, filter, Option, None, unwrap_or}
 use Rattle.std.specs.List.{list_any, zip}
 use Rattle.vx_fields.specs.declared.ptl.TheConstants.{general_level_idc}
@@ -23,7 +23,7 @@ use Rattle.vx_frame.specs.Rules.{crosses_slices, crosses_tiles, has_slices, has_
 
 -- ---- of several pictures (our own)
 
--- the least and the greatest of numbers; 0 of none
+-- The least and the greatest of numbers; 0 of none.
 abbrev pub least : List ℕ → ℕ
 least [] = 0
 least (n ∷ []) = n
@@ -33,12 +33,12 @@ abbrev pub greatest : List ℕ → ℕ
 greatest [] = 0
 greatest (n ∷ more) = max n (greatest more)
 
--- what the lowest picture of which something holds has
+-- What the lowest picture of which something holds has.
 abbrev pub of_lowest : {A : Type 0} → (Parts → Bool) → (Parts → A) → A → List Parts → A
 of_lowest has f none [] = none
 of_lowest has f none (q ∷ round) = cond (has q) (f q) (of_lowest has f none round)
 
--- the numbers that their SPSs give a field
+-- The numbers that their SPSs give a field.
 abbrev pub numbers_in_round : List Parts → ℕ → List ℕ
 numbers_in_round round of = map (λ q. number q.sps of) round
 
@@ -48,7 +48,7 @@ numbers_in_round round of = map (λ q. number q.sps of) round
 abbrev pub offsets_at : (Placed → Bool) → ℕ → List Placed → List Parts → List ℕ
 offsets_at touches of placed round = map (λ r. number r.1.sps of) (filter (λ r. touches r.0) (zip placed round))
 
--- left, right, top and bottom: the least of these
+-- Left, right, top and bottom: the least of these.
 abbrev pub frame_window : List Placed → List Parts → List ℕ
 frame_window placed round =
     least (offsets_at (λ p. p.x == 0) sps.sps_conf_win_left_offset placed round)
@@ -56,8 +56,8 @@ frame_window placed round =
     ∷ least (offsets_at (λ p. p.y == 0) sps.sps_conf_win_top_offset placed round)
     ∷ least (offsets_at (λ p. p.y + p.h == frame_height placed) sps.sps_conf_win_bottom_offset placed round) ∷ []
 
--- the DPB parameters of the highest sublayer: the greatest of each; no latency is bounded where one isn't (7.4.5,
--- dpb_max_latency_increase_plus1)
+-- The DPB parameters of the highest sublayer: the greatest of each. No latency is bounded if one isn't (7.4.5,
+-- dpb_max_latency_increase_plus1).
 abbrev pub latency_of : List ℕ → ℕ
 latency_of latencies = cond (list_any (λ n. n == 0) latencies) 0 (greatest latencies)
 
@@ -66,7 +66,7 @@ frame_dpb round =
     greatest (numbers_in_round round dpb.dpb_max_dec_pic_buffering_minus1) ∷ greatest (numbers_in_round round dpb.dpb_max_num_reorder_pics)
     ∷ latency_of (numbers_in_round round dpb.dpb_max_latency_increase_plus1) ∷ []
 
--- the level that is asked for, or else the highest
+-- The level that is asked for, or else the highest.
 abbrev pub frame_level : List Parts → Option ℕ → ℕ
 frame_level round level = unwrap_or level (greatest (numbers_in_round round general_level_idc))
 

@@ -1,16 +1,16 @@
--- Rules that sources may break, and the verdict on them: the first rule in order that is broken, told of the lowest source that breaks it.
+-- Rules that sources may break, and the verdict on them: the first rule in order that is broken, with the lowest source that breaks it.
 -- Our own.
 use Rattle.std.specs.Prelude.{◌≡◌, ℕ, ◌<◌, ◌⊎◌, List, [], ◌∷◌, Option, Some, None}
 use Rattle.vx_bits.specs.declared.refusal.Refusal.{Refusal}
 use Rattle.vx_fit.specs.Lowest.{IsLowest}
 
--- A rule: that source k breaks it, and what is then told.
+-- A rule: source k breaks it, and this is then the refusal.
 pub record Rule : Type 1 where
   pub breaks : ℕ → Type 0
   pub tells : ℕ → Refusal
 
--- The verdict on n sources by rules in order: no source breaks the first one, and it is that by the others; or some do, and the lowest
--- of them is told; and nothing is told where none is broken.
+-- The verdict on n sources by rules in order. If no source breaks the first rule, it is that by the others; otherwise it is the refusal
+-- for the lowest source that breaks it. It is none if no rule is broken.
 abbrev pub IsVerdict : ℕ → List Rule → Option Refusal → Type 0
 IsVerdict n [] answer = answer ≡ None
 IsVerdict n (rule ∷ rules) answer =

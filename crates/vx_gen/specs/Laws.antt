@@ -1,4 +1,4 @@
--- What is read of generated streams.
+-- What is read of generated streams. Our own.
 use Rattle.std.specs.Prelude.{◌≡◌, ℕ, ◌*◌, ◌<◌, ◌≤◌, map, None}
 use Rattle.vx_pic.specs.Bytes.{AreSourcePictures}
 use Rattle.vx_pic.specs.H266.{AreOfH266}

@@ -1,4 +1,4 @@
--- What the contracts of this crate cite.
+-- The definitions that the contracts of this crate cite.
 pub mod Draws
 pub mod Laws
 pub mod Merges

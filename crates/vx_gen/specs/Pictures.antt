@@ -1,4 +1,4 @@
--- What generated streams say: their sets, headers and pictures.
+-- What generated streams mean: their sets, headers and pictures.
 use Rattle.std.specs.Prelude.{ℕ, zero, suc, ◌+◌, ◌*◌, ℤ, pos, neg_ℤ, Bool, true, false, List, [], ◌∷◌, ◌++◌, map, None}
 use Rattle.vx_bits.specs.declared.list.Item.{Item}
 use Rattle.vx_fields.specs.declared.dpb.TheConstants as dpb
@@ -21,14 +21,14 @@ use Rattle.vx_gen.specs.Units.{lsb}
 abbrev pub generated_item : ℕ → ℤ → Item
 generated_item of v = record { field = of; value = v }
 
--- fields that are 0
+-- Fields that are 0.
 abbrev pub zeros : List ℕ → List Item
 zeros fields = map (λ of. generated_item of (pos 0)) fields
 
 -- ---- sets
 
--- the SPS (7.3.2.4): CTUs of 64, profile 1, level 51, pictures of 128 times 128 samples, no chroma, eight bits, four low bits of counts,
--- no tools, and no reference picture list structures
+-- The SPS (7.3.2.4): CTUs of 64, profile 1, level 51, pictures of 128 times 128 samples, no chroma, eight bits, four low bits of counts,
+-- no tools, and no reference picture list structures.
 abbrev pub generated_sps : List Item
 generated_sps =
     zeros (sps.sps_seq_parameter_set_id ∷ sps.sps_video_parameter_set_id ∷ sps.sps_max_sublayers_minus1 ∷ sps.sps_chroma_format_idc ∷ [])
@@ -65,7 +65,7 @@ generated_sps =
     ∷ sps.sps_virtual_boundaries_enabled_flag ∷ sps.sps_timing_hrd_params_present_flag
     ∷ sps.sps_field_seq_flag ∷ sps.sps_vui_parameters_present_flag ∷ sps.sps_extension_flag ∷ [])
 
--- source k's PPS (7.3.2.5): pictures of that size that aren't partitioned, and a QP of 26 − k
+-- Source k's PPS (7.3.2.5): pictures of that size that aren't partitioned, and a QP of 26 − k.
 abbrev pub generated_pps : ℕ → List Item
 generated_pps k =
     zeros (pps.pps_pic_parameter_set_id ∷ pps.pps_seq_parameter_set_id ∷ pps.pps_mixed_nalu_types_in_pic_flag ∷ [])
@@ -84,13 +84,13 @@ generated_pps k =
 abbrev pub sets : ℕ → List SetUnit
 sets k = record { unit = units.sps; set = an_sps generated_sps } ∷ record { unit = units.pps k; set = a_pps (generated_pps k) } ∷ []
 
--- one tile, one slice and one subpicture of two times two CTUs (6.5.1)
+-- One tile, one slice and one subpicture of two times two CTUs (6.5.1).
 abbrev pub layout : Numbers
 layout = record { columns = 0 ∷ 2 ∷ []; rows = 0 ∷ 2 ∷ []; slices = whole_picture 2 2 ∷ []; subpics = whole_picture 2 2 ∷ [] }
 
 -- ---- headers
 
--- the header of picture p (7.3.2.8): of an IDR picture, or of a trailing picture, without inter slices
+-- The header of picture p (7.3.2.8): of an IDR picture, or of a trailing picture, without inter slices.
 abbrev pub idr_header : List Item
 idr_header = generated_item ph.ph_gdr_or_irap_pic_flag (pos 1)
     ∷ zeros (ph.ph_non_ref_pic_flag ∷ ph.ph_gdr_pic_flag ∷ ph.ph_inter_slice_allowed_flag ∷ ph.ph_pic_parameter_set_id
@@ -105,7 +105,8 @@ abbrev pub generated_header : ℕ → List Item
 generated_header zero = idr_header
 generated_header (suc p) = trailing_header (lsb (suc p))
 
--- its slice's (7.3.7), inside of which it stands: two empty reference picture lists, but of an IDR picture, and no QP delta
+-- The header of picture p's slice (7.3.7), with the picture header inside: two empty reference picture lists, except for an IDR picture,
+-- and no QP delta.
 abbrev pub idr_slice : List Item
 idr_slice = generated_item sh.sh_picture_header_in_slice_header_flag (pos 1) ∷ zeros (sh.sh_no_output_of_prior_pics_flag ∷ sh.sh_qp_delta ∷ [])
 
@@ -117,13 +118,13 @@ abbrev pub generated_slice : ℕ → List Item
 generated_slice zero = idr_slice
 generated_slice (suc p) = trailing_slice
 
--- four bytes of the unit come before its data
+-- Four bytes of the unit come before its data.
 abbrev pub slice_header : ℕ → SliceHeader
 slice_header p = record { fields = generated_slice p; subpic = 0; payload = 4 }
 
 -- ---- pictures
 
--- the first is an IDR picture, with which the coded layer video sequence starts
+-- The first is an IDR picture, with which the coded layer video sequence starts.
 abbrev pub nal_type : ℕ → ℕ
 nal_type zero = IDR_N_LP
 nal_type (suc p) = TRAIL_NUT
@@ -132,19 +133,19 @@ abbrev pub is_first : ℕ → Bool
 is_first zero = true
 is_first (suc p) = false
 
--- picture p, whose count is p (8.3.1)
+-- Picture p, whose count is p (8.3.1).
 abbrev pub kind : ℕ → Kind
 kind p = record { nal_type = nal_type p; temporal_id = 0; clvss = is_first p; after_eos = false; poc = pos p }
 
 abbrev pub generated_begun : ℕ → ℕ → Begun
 generated_begun k p = record { sps = generated_sps; pps = generated_pps k; layout = layout; header = generated_header p; temporal_id = 0; unit = None }
 
--- the first one is sent with its sets
+-- The first one is sent with its sets.
 abbrev pub sent : ℕ → ℕ → List SetUnit
 sent k zero = sets k
 sent k (suc p) = []
 
--- picture p of source k, whose data is drawn from draw n on
+-- Picture p of source k, whose data is drawn from draw n on.
 abbrev pub plan : (seed n k p : ℕ) → Plan
 plan seed n k p = record {
   sent = sent k p;
@@ -155,7 +156,7 @@ plan seed n k p = record {
   more = [];
 }
 
--- the first pictures of source k, so many, the last one first, where the first one's data is drawn from draw n on
+-- The first `pictures` pictures of source k, the last one first, if the first one's data is drawn from draw n on.
 abbrev pub plans : (seed n k pictures : ℕ) → List Plan
 plans seed n k zero = []
 plans seed n k (suc p) = plan seed (n + 5 * p) k p ∷ plans seed n k p

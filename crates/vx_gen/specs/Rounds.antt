@@ -14,15 +14,15 @@ use Rattle.vx_merge.specs.Merging.{IsBarred, Passes}
 use Rattle.vx_gen.specs.Pictures.{plans}
 use Rattle.vx_gen.specs.Shown.{generated_parts}
 
--- the corners of so many sources, in luma samples
+-- The corners of the sources, in luma samples.
 abbrev pub corners : ℕ → List Corner
 corners sources = map (λ k. record { x = 128 * k; y = 0 }) (range_with_len 0 sources)
 
--- picture p of each source, of so many pictures each
+-- Picture p of each source, each of which has `pictures` pictures.
 abbrev pub round : (seed pictures sources p : ℕ) → List Parts
 round seed pictures sources p = map (λ k. generated_parts seed (5 * (k * pictures) + 5 * p) k p) (range_with_len 0 sources)
 
--- the pictures of source k, so many, as they are read of its stream: the latest one first
+-- The pictures of source k as they are read from its stream, the latest one first.
 abbrev pub planned : (seed pictures k : ℕ) → List Picture
 planned seed pictures k = planned_of (plans seed (5 * (k * pictures)) k pictures)
 
@@ -36,7 +36,7 @@ pub record CanBeCorners (sources : ℕ) : Type 0 where
 abbrev pub CornersAreThere : Type 0
 CornersAreThere = (sources : ℕ) → 1 ≤ sources → sources ≤ 16 → CanBeCorners sources
 
--- There are so many pictures of each source, and picture p of each, in the order of the stream, makes round p.
+-- Each source has `pictures` pictures, and picture p of each, in the order of the stream, makes round p.
 abbrev pub PlannedAreSoMany : Type 0
 PlannedAreSoMany = (seed pictures k : ℕ) → length (planned seed pictures k) ≡ pictures
 
@@ -52,7 +52,7 @@ abbrev pub GeneratedBreakNoRule : Type 0
 GeneratedBreakNoRule = (seed pictures sources p : ℕ) → 1 ≤ sources → sources ≤ 16
     → IsVerdict sources (rules_of (corners sources) (round seed pictures sources p)) None
 
--- The first rounds, as many as plans, are written so, each behind those before it; the latest plan comes first.
+-- The first rounds, as many as plans, are written so, each after those before it; the latest plan comes first.
 abbrev pub AreGeneratedRounds : (seed pictures sources : ℕ) → List Plan → Type 0
 AreGeneratedRounds seed pictures sources [] = Unit {0}
 AreGeneratedRounds seed pictures sources (p ∷ done) =

@@ -1,4 +1,4 @@
--- Generated pictures as callers see them.
+-- Generated pictures as callers see them. Our own.
 use Rattle.std.specs.Prelude.{ℕ, zero, suc, ◌+◌, ◌*◌, true, List, [], ◌∷◌, None, replicate}
 use Rattle.vx_rpl.specs.declared.entry.RefLists.{RefLists}
 use Rattle.vx_pic.specs.Parts.{Parts}
@@ -9,7 +9,7 @@ use Rattle.vx_gen.specs.Units.{slice}
 abbrev pub no_lists : RefLists
 no_lists = record { first = []; second = [] }
 
--- picture p of source k, whose data is drawn from draw n on: it has one slice, no adaptation parameter sets and no messages
+-- Picture p of source k, whose data is drawn from draw n on: it has one slice, no adaptation parameter sets and no messages.
 abbrev pub generated_parts : (seed n k p : ℕ) → Parts
 generated_parts seed n k p = record {
   kind = kind p;
@@ -28,7 +28,7 @@ generated_parts seed n k p = record {
   messages = [];
 }
 
--- the first pictures of source k, so many, the last one first, where the first one's data is drawn from draw n on
+-- The first `pictures` pictures of source k, the last one first, if the first one's data is drawn from draw n on.
 abbrev pub shown : (seed n k pictures : ℕ) → List Parts
 shown seed n k zero = []
 shown seed n k (suc p) = generated_parts seed (n + 5 * p) k p ∷ shown seed n k p

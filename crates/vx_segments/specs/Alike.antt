@@ -1,5 +1,5 @@
--- Pictures that are read alike: what may differ between a picture as it is read in a segment alone and as it is read behind other
--- segments, so that the same is written of it.
+-- Pictures that are read alike: what may differ between a picture read in a segment by itself and the same picture read after other
+-- segments, so that the same is written of it. Our own.
 use Rattle.std.specs.Prelude.{◌≡◌, List, ◌++◌}
 use Rattle.std.specs.List.{AllByRecursion}
 use Rattle.vx_fields.specs.declared.ph.TheConstants as ph
@@ -18,8 +18,8 @@ header_names p = named aps.LMCS ph.ph_lmcs_aps_id p.header.fields ++ named aps.S
 abbrev pub slice_names : Parts → SlicePart → List Slot
 slice_names p s = named_filters (filter_items p.pps p.header.fields (read_of s.header))
 
--- The second is the first, but for whether it starts a coded layer video sequence, for its count, and for adaptation parameter sets that it
--- doesn't name: behind other segments a CRA or GDR picture starts none, counts go on, and sets of these segments are still there.
+-- The second is the first, except for whether it starts a coded layer video sequence, for its count, and for adaptation parameter sets
+-- that it doesn't name. After other segments a CRA or GDR picture starts none, counts go on, and sets of these segments are still there.
 pub record IsReadAlike (p q : Parts) : Type 0 where
   pub same : q ≡ record p { kind = record p.kind { clvss = q.kind.clvss; poc = q.kind.poc }; bodies = q.bodies }
   pub header : HaveAlike p q (header_names p)

@@ -1,4 +1,4 @@
--- Definitions that the laws of this crate cite.
+-- The definitions that the laws of this crate cite.
 pub mod Alike
 pub mod Streams
 pub mod Segments

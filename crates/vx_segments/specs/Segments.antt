@@ -1,4 +1,4 @@
--- Merges of segments, one after another, and the merge of all. Rounds and plans have the latest first.
+-- Merges of segments, one after another, and the merge of all. Rounds and plans have the latest first. Our own.
 use Rattle.std.specs.Prelude.{◌≡◌, ◌⊎◌, ℕ, ◌+◌, ◌≤◌, true, List, [], ◌∷◌, ◌++◌, length, Option}
 use Rattle.vx_bits.specs.declared.refusal.Refusal.{Refusal}
 use Rattle.vx_bits.specs.declared.refusal.Refusal.TheVariants.{Limit}
@@ -15,7 +15,7 @@ use Rattle.vx_merge.specs.Merging.{IsBarred, Passes}
 
 -- ---- rounds
 
--- These rounds, from the first of a stream on, are written as these plans: each breaks no rule, and is written so behind those before it,
+-- These rounds, from the first of a stream on, are written as these plans: each breaks no rule, and is written so after those before it,
 -- within all limits.
 abbrev pub AreWrittenInTurn : List Corner → Option ℕ → List (List Parts) → List Plan → Type 0
 AreWrittenInTurn corners level [] [] = Unit {0}
@@ -23,38 +23,39 @@ AreWrittenInTurn corners level [] (p ∷ done) = ⊥
 AreWrittenInTurn corners level (round ∷ rounds) [] = ⊥
 AreWrittenInTurn corners level (round ∷ rounds) (p ∷ done) = Passes corners level round done p × AreWrittenInTurn corners level rounds done
 
--- the first of these rounds is of IRAP or GDR pictures, as its source 0's tells, whose type all have (M6): a receiver may begin there
+-- The first of these rounds is of IRAP or GDR pictures, by the type of source 0's, which all have (M6): a receiver may begin there.
 abbrev pub BeginAnew : List (List Parts) → Type 0
 BeginAnew [] = Unit {0}
 BeginAnew (round ∷ []) = is_irap_or_gdr (picture_at round 0).kind.nal_type ≡ true
 BeginAnew (round ∷ before ∷ rounds) = BeginAnew (before ∷ rounds)
 
--- what is written as plans
+-- The bytes that are written as plans.
 abbrev pub merge_of : List Plan → List ℕ
 merge_of done = written (units_written done)
 
 -- ---- laws
 
--- Later rounds are written behind the first ones as they are alone, and the bytes of all are those of both, one behind the other.
+-- Later rounds are written after the first ones as they are by themselves, and the bytes of all are those of both, one after the other.
 pub record AreOneMerge (corners : List Corner) (level : Option ℕ) (first later : List (List Parts)) (ps qs : List Plan) : Type 0 where
   pub merged : AreWrittenInTurn corners level (later ++ first) (qs ++ ps)
   pub bytes : merge_of (qs ++ ps) ≡ merge_of ps ++ merge_of qs
 
--- It is so where the later ones begin anew, and both have no more bytes than a stream may have.
+-- It is so if the later ones begin anew, and both have no more bytes than a stream may have.
 abbrev pub SegmentsJoin : Type 0
 SegmentsJoin =
     (corners : List Corner) (level : Option ℕ) (first later : List (List Parts)) (ps qs : List Plan) → BeginAnew later
     → AreWrittenInTurn corners level first ps → AreWrittenInTurn corners level later qs → length (merge_of ps) + length (merge_of qs) ≤ source_limit
     → AreOneMerge corners level first later ps qs
 
--- There is no other way to write all: what they are written as is what each part is written as alone.
+-- There is no other way to write all: they are written as each part is written by itself.
 abbrev pub SegmentsSplit : Type 0
 SegmentsSplit =
     (corners : List Corner) (level : Option ℕ) (first later : List (List Parts)) (all : List Plan) → BeginAnew later
     → AreWrittenInTurn corners level (later ++ first) all
     → (ps : List Plan) × (qs : List Plan) × (all ≡ qs ++ ps) × AreWrittenInTurn corners level first ps × AreWrittenInTurn corners level later qs
 
--- A round is barred behind all for what it is barred for behind the later ones alone; and for nothing else, but that all have too many bytes.
+-- A round is barred after all for what it is barred for after the later ones only; and for nothing else, except that all have too many
+-- bytes.
 abbrev pub BarredAlike : Type 0
 BarredAlike =
     (corners : List Corner) (level : Option ℕ) (round : List Parts) (later : List (List Parts)) (ps qs : List Plan) (r : Refusal)

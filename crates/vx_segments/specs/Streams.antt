@@ -1,4 +1,4 @@
--- A segment of a stream, as its units are read alone, and behind those of the segments before it.
+-- A segment of a stream, as its units are read by themselves, and after those of the segments before it. Our own.
 use Rattle.std.specs.Prelude.{◌≡◌, ◌≢◌, ℕ, true, List, [], ◌∷◌, ◌++◌, map, drop, slice_get, Some, None, option_map}
 use Rattle.std.specs.List.{AllByRecursion, AllZip}
 use Rattle.vx_annexb.specs.ByteStream.{IsStream, UnitPlace, unit_bytes}
@@ -14,7 +14,7 @@ use Rattle.vx_segments.specs.Alike.{IsReadAlike}
 
 -- ---- a source
 
--- none of these units ends a sequence or the bitstream
+-- None of these units ends a sequence or the bitstream.
 abbrev pub HaveNoEnd : List (List ℕ) → Type 0
 HaveNoEnd units = AllByRecursion (λ u. class_of (nal_unit_type u) ≢ end_unit) units
 
@@ -22,21 +22,21 @@ HaveNoEnd units = AllByRecursion (λ u. class_of (nal_unit_type u) ≢ end_unit)
 abbrev pub PicturesAlike : List Picture → List Picture → Type 0
 PicturesAlike ps qs = AllZip (λ p q. IsReadAlike (parts_of p) (parts_of q)) ps qs
 
--- Where the segments before end whole, without an end of sequence or messages behind their last picture, and the segment has no end of
--- sequence, and where all its units are read, alone and behind those before: its pictures come behind those before, each read alike.
+-- The segments before end whole, without an end of sequence or messages after their last picture; the segment has no end of sequence; and
+-- all its units are read, by themselves and after those before. Then its pictures come after those before, each read alike.
 abbrev pub SegmentIsReadAlike : Type 0
 SegmentIsReadAlike =
     (R : Readers) (first later : List (List ℕ)) (before own all : List Reading) → read_on R [] first ≡ all_read before → Rests before
     → HaveNoEnd later → read_on R [] later ≡ all_read own → read_on R [] (first ++ later) ≡ all_read all
     → (qs : List Picture) × (pictures all ≡ qs ++ pictures before) × PicturesAlike (pictures own) qs
 
--- And where the segment ends so too, both do: a further segment may come behind them.
+-- If the segment ends so too, then both do: another segment may follow.
 abbrev pub JoinedRests : Type 0
 JoinedRests =
     (R : Readers) (first later : List (List ℕ)) (before own all : List Reading) → read_on R [] first ≡ all_read before → Rests before
     → HaveNoEnd later → read_on R [] later ≡ all_read own → read_on R [] (first ++ later) ≡ all_read all → Rests own → Rests all
 
--- Bytes that end well, one behind the other, end well, and have the units of both.
+-- Bytes that end well, one after the other, end well, and have the units of both.
 abbrev pub BytesJoin : Type 0
 BytesJoin =
     (b c : List ℕ) (us vs : List UnitPlace) → IsStream b true us None → IsStream c true vs None
@@ -45,24 +45,24 @@ BytesJoin =
 
 -- ---- several sources
 
--- the pictures of these sources make these rounds, one of each source in each, and no more; the latest first
+-- The pictures of these sources make these rounds, one of each source in each, and no more; the latest first.
 abbrev pub MakeRounds : List (List Picture) → List (List Parts) → Type 0
 MakeRounds sources [] = AllByRecursion (λ ps. ps ≡ []) sources
 MakeRounds sources (round ∷ rounds) =
     (map (λ ps. option_map parts_of (slice_get ps 0)) sources ≡ map (λ q. Some q) round) × MakeRounds (map (drop 1) sources) rounds
 
--- Of a source: its pictures in the segments before, in a segment as that is read alone, and in both as the joined stream is read.
+-- For a source: its pictures in the segments before, in a segment as that is read by itself, and in both as the joined stream is read.
 pub record CutStream : Type 0 where
   pub before : List Picture
   pub own : List Picture
   pub all : List Picture
 
--- the pictures of both are those before, and behind them the segment's, each read alike
+-- The pictures of both are those before, and after them the segment's, each read alike.
 abbrev pub IsJoined : CutStream → Type 0
 IsJoined s = (qs : List Picture) × (s.all ≡ qs ++ s.before) × PicturesAlike s.own qs
 
--- it is so of bytes: of the segments before, b, behind whose last picture comes no end of sequence and no message, and of the segment, c, in
--- which no sequence ends; where no rule refuses either, or both, one behind the other
+-- It is so of bytes: of the segments before, b, after whose last picture comes no end of sequence and no message, and of the segment, c,
+-- in which no sequence ends; no rule refuses either, or both, one after the other.
 pub record IsCutStream (R : Readers) (b c : List ℕ) (s : CutStream) : Type 0 where
   pub before : ArePictures R b true s.before None
   pub own : ArePictures R c true s.own None
@@ -73,11 +73,11 @@ pub record IsCutStream (R : Readers) (b c : List ℕ) (s : CutStream) : Type 0 w
 abbrev pub CutIsJoined : Type 0
 CutIsJoined = (R : Readers) (b c : List ℕ) (s : CutStream) → IsCutStream R b c s → IsJoined s
 
--- each picture of these rounds is read alike
+-- Each picture of these rounds is read alike.
 abbrev pub AreReadAlike : List (List Parts) → List (List Parts) → Type 0
 AreReadAlike alone behind = AllZip (AllZip IsReadAlike) alone behind
 
--- So the rounds of the joined streams are those of the segments before, and behind them the segment's, each picture read alike.
+-- So the rounds of the joined streams are those of the segments before, and after them the segment's, each picture read alike.
 abbrev pub RoundsAreReadAlike : Type 0
 RoundsAreReadAlike =
     (sources : List CutStream) (first alone : List (List Parts)) → AllByRecursion IsJoined sources

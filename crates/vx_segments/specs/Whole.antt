@@ -1,4 +1,4 @@
--- Merges of segments that are read alone, one after another, are the merge of the streams that they are joined to.
+-- Merges of segments that are read by themselves, one after another, are the merge of the joined streams. Our own.
 use Rattle.std.specs.Prelude.{◌≡◌, ℕ, ◌+◌, ◌<◌, ◌≤◌, List, ◌∷◌, ◌++◌, length, map, Option}
 use Rattle.std.specs.List.{AllByRecursion, AllZip}
 use Rattle.vx_bits.specs.declared.refusal.Refusal.{Refusal}
@@ -22,8 +22,8 @@ AlikeAreWrittenAlike =
     → AreWrittenInTurn corners level alone ps
     → (qs : List Plan) × AreWrittenInTurn corners level behind qs × (units_written qs ≡ units_written ps)
 
--- Of a segment that begins anew: `first` are the rounds of the segments before it, and its own are `alone` as it is read alone, and `later`
--- as the joined streams are read. The merge of all are the bytes that were merged before and those of the segment's own merge.
+-- For a segment that begins anew: `first` are the rounds of the segments before it, and its own are `alone` as it is read by itself, and
+-- `later` as the joined streams are read. The merge of all are the bytes that were merged before and those of the segment's own merge.
 abbrev pub SegmentsAreOneMerge : Type 0
 SegmentsAreOneMerge =
     (corners : List Corner) (level : Option ℕ) (first alone later : List (List Parts)) (ps qs : List Plan) → BeginAnew alone
@@ -31,7 +31,7 @@ SegmentsAreOneMerge =
     → length (merge_of ps) + length (merge_of qs) ≤ source_limit
     → (rs : List Plan) × AreOneMerge corners level first later ps rs × (merge_of rs ≡ merge_of qs)
 
--- And where the next round of the segment is barred alone, it is so in the merge of all, behind the same bytes.
+-- If the next round of the segment is barred by itself, then it is barred in the merge of all, after the same bytes.
 abbrev pub SegmentIsBarredAlike : Type 0
 SegmentIsBarredAlike =
     (corners : List Corner) (level : Option ℕ) (round other : List Parts) (first alone later : List (List Parts)) (ps qs : List Plan)
@@ -47,8 +47,8 @@ StreamsBeginAnew =
     → MakeRounds sources rounds → BeginAnew rounds
 
 -- What several sources make, as segments and joined: `first` are the rounds of the segments before, and `alone` those of a segment that
--- begins anew, each of these read alone. Then the rounds of the joined streams are written as the merge of the segments before, and behind
--- it that of the segment, byte for byte.
+-- begins anew, each of these read by itself. Then the rounds of the joined streams are written as the merge of the segments before, and
+-- after it that of the segment, byte for byte.
 abbrev pub MergesAreOne : Type 0
 MergesAreOne =
     (corners : List Corner) (level : Option ℕ) (sources : List CutStream) (first alone : List (List Parts)) (ps qs : List Plan)

@@ -1,3 +1,3 @@
--- What the contracts of this crate cite.
+-- The definitions that the contracts of this crate cite.
 pub mod Trial
 pub mod inner

@@ -1,5 +1,5 @@
--- A trial: streams that are made from a number are merged side by side, and each region of the merge is extracted; and what is counted of it.
--- Our own.
+-- A trial: streams that are generated from a number are merged side by side, each region of the merge is extracted, and the result is
+-- counted. Our own.
 use Rattle.std.specs.Prelude.{◌≡◌, ℕ, ◌+◌, ◌*◌, ◌%◌, ◌^◌, List, [], ◌∷◌, ◌++◌, length, map, None}
 use Rattle.std.specs.List.{AllZip, concat, range_with_len}
 use Rattle.vx_annexb.specs.Laws.{written}
@@ -19,12 +19,12 @@ use Rattle.vx_trial.specs.declared.tally.Tally.{Tally}
 
 -- ---- the weight of bytes
 
--- the sum of bytes, each times its place in a list, where the first one's place is given
+-- The sum of bytes, each times its place in a list whose first place is given.
 abbrev pub weighted : ℕ → List ℕ → ℕ
 weighted place [] = 0
 weighted place (b ∷ bytes) = place * b + weighted (place + 1) bytes
 
--- places are counted from 1
+-- Places are counted from 1.
 abbrev pub weight : List ℕ → ℕ
 weight bytes = weighted 1 bytes % 2 ^ 32
 
@@ -41,7 +41,7 @@ pub record IsTrial (R : Readers) (corners : List Corner) (streams : List (List �
   pub again : IsReadAsMerge R corners sources merged pictures
   pub extracted : AllZip (λ k bytes. IsExtraction k None (map parts_of pictures) bytes) (range_with_len 0 (length sources)) parts
 
--- what is counted of the trial of so many streams, of so many pictures each
+-- The counts of the trial of `sources` streams of `pictures` pictures each.
 pub record IsTally (R : Readers) (seed sources pictures : ℕ) (tally : Tally) : Type 0 where
   pub merged : List ℕ
   pub parts : List (List ℕ)

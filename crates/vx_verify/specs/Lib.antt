@@ -1,4 +1,4 @@
--- Definitions that the contracts of this crate cite.
+-- The definitions that the contracts of this crate cite.
 pub mod Verified
 pub mod Line
 pub mod Verifying

@@ -1,4 +1,4 @@
--- The line of what differs, with its line feed. Our own.
+-- The line of a mismatch, with its line feed. Our own.
 use Rattle.std.specs.Prelude.{ℕ, List, [], ◌∷◌, codes, decimal}
 use Rattle.std.specs.List.{concat}
 use Rattle.vx_pic.specs.declared.compare.Difference.{Difference}

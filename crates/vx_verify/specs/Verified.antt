@@ -1,5 +1,5 @@
--- When a finished picture is its sources' pictures put together, and what is told where it isn't. Files are numbered: file 0 is the
--- finished stream, and file k + 1 is source k. Our own.
+-- When a finished picture is the merge of its sources' pictures, and which mismatch there is if it isn't. Files are numbered: file 0 is
+-- the finished stream, and file k + 1 is source k. Our own.
 use Rattle.std.specs.Prelude.{◌≡◌, ◌≢◌, ◌⊎◌, ℕ, zero, suc, ◌*◌, ◌<◌, List, [], ◌∷◌, length, take, slice_get, Some}
 use Rattle.vx_sps.specs.Set.{ctb_size_of}
 use Rattle.vx_sps.specs.Subpictures.{subpics_of, rect_of}
@@ -14,7 +14,7 @@ use Rattle.vx_verify.specs.declared.mismatch.Mismatch.TheVariants as mismatches
 
 -- ---- verified pictures
 
--- the upper left corner of subpicture k in luma samples (7.4.3.4)
+-- The upper left corner of subpicture k in luma samples (7.4.3.4).
 abbrev pub corner_in : Parts → ℕ → Spot
 corner_in q k = record { x = (rect_of q.sps k).x * ctb_size_of q.sps; y = (rect_of q.sps k).y * ctb_size_of q.sps }
 
@@ -33,21 +33,21 @@ pub record IsVerified (spots : List Spot) (finished : Parts) (round : List Parts
 
 -- ---- checks of files
 
--- this holds of entry k of a list
+-- This holds of entry k of a list.
 abbrev pub OfEntry : {A : Type 0} → List A → ℕ → (A → Type 0) → Type 0
 OfEntry {A = A} xs k P = (x : A) × (slice_get xs k ≡ Some x) × P x
 
--- The files that fail a check: the finished stream where this is so of it, and source k where something doesn't hold of entry k.
+-- The files that fail a check: the finished stream if this is so of it, and source k if something doesn't hold of entry k.
 abbrev pub Fails : {A : Type 0} → Type 0 → List A → (ℕ → A → Type 0) → ℕ → Type 0
 Fails Finished xs Holds zero = Finished
 Fails Finished xs Holds (suc k) = OfEntry xs k (λ x. ¬ Holds k x)
 
--- A check of files: that file k fails it, and what is then told.
+-- A check of files: file k fails it, and these are then the mismatches.
 pub record Check : Type 1 where
   pub fails : ℕ → Type 0
   pub tells : ℕ → Mismatch → Type 0
 
--- The first of some checks of n files that one fails, with the lowest one, and what is told of it.
+-- The first of some checks of n files that one fails, with the lowest one, and its mismatch.
 abbrev pub IsFirst : ℕ → List Check → Mismatch → Type 0
 IsFirst n [] m = ⊥
 IsFirst n (c ∷ checks) m =
@@ -84,7 +84,7 @@ slice_check finished round = record {
   tells = λ file m. m ≡ mismatches.Slices file;
 }
 
--- C4: it has other decoding inputs. What is told is the slice that differs first, by its address, and where its input does.
+-- C4: it has other decoding inputs. The mismatch has the slice that differs first, by its address, and where its input differs.
 abbrev pub HasInputs : Parts → ℕ → Parts → Type 0
 HasInputs finished k q = inputs_in finished k ≡ inputs_in q 0
 
@@ -115,12 +115,12 @@ abbrev pub IsMismatch : List Spot → Parts → List Parts → Mismatch → Type
 IsMismatch spots finished round m =
     IsFirst (suc (length round)) (count_check finished round ∷ corner_check spots finished ∷ slice_check finished round ∷ input_check finished round ∷ []) m
 
--- A round that is verified has none.
+-- A round that is verified has no mismatch.
 abbrev pub VerifiedHasNone : Type 0
 VerifiedHasNone = (spots : List Spot) (finished : Parts) (round : List Parts) (m : Mismatch)
     → IsVerified spots finished round → ¬ IsMismatch spots finished round m
 
--- Of one that isn't, one thing is told.
+-- A round that isn't verified has one mismatch.
 abbrev pub MismatchIsOne : Type 0
 MismatchIsOne = (spots : List Spot) (finished : Parts) (round : List Parts) (m other : Mismatch)
     → IsMismatch spots finished round m → IsMismatch spots finished round other → m ≡ other

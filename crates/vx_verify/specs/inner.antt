@@ -1,2 +1,2 @@
--- Definitions that serve bodies and proofs alone.
+-- Definitions that only bodies and proofs use: no caller has to believe them.
 pub mod Found

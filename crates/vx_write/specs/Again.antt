@@ -1,4 +1,4 @@
--- What is written is read again: the units of sets and messages, and what is known of a picture that is written.
+-- What is written is read again: the units of sets and messages, and what is known of a picture that is written. Our own.
 use Rattle.std.specs.List.{AllByRecursion}
 use Rattle.std.specs.Prelude.{◌≡◌, ℕ, ◌+◌, ◌<◌, ◌≤◌, false, IsTrue, List, length, sum_by, All, Option, Some}
 use Rattle.vx_bits.specs.Limits.{unit_limit}
@@ -18,7 +18,7 @@ use Rattle.vx_write.specs.Units.{IsSeiUnit, IsSetUnit, IsUnitOf}
 
 -- ---- units of sets and messages
 
--- a set that can be read again, where its unit is written
+-- A set that can be read again if its unit is written.
 abbrev pub IsReadable : Set → Type 0
 IsReadable (an_sps items) = Unit {0}
 IsReadable (a_pps items) = Unit {0}
@@ -48,7 +48,7 @@ EndStands = CanStand eos_unit
 
 -- ---- a picture that is written
 
--- The header of a plan, and its slices, are read as it says: under its sets, of which the one refers to the other.
+-- The header of a plan, and its slices, are read as it says: under its sets, one of which refers to the other.
 pub record UnitsAreRead (R : Readers) (p : Plan) : Type 0 where
   pub head : HeadReads R p.begun.unit p.begun p.first
   pub slices : AllByRecursion (SliceReads R p.begun p.kind.nal_type) (planned_slices p)

@@ -1,10 +1,10 @@
--- Why a picture isn't written.
+-- Why a picture isn't written. Our own.
 use Rattle.vx_write.specs.declared.fault.WriteError.{WriteError}
 use Rattle.vx_write.specs.declared.fault.WriteError.TheVariants as errors
 use Rattle.vx_write.specs.declared.fault.WriteFirst.{WriteFirst}
 use Rattle.vx_write.specs.declared.fault.WriteFirst.TheVariants as firsts
 
--- what an answer says of what first kept pictures from being written
+-- The first error that kept pictures from being written, after this result.
 abbrev pub first_of : WriteError → WriteFirst
 first_of errors.Memory = firsts.Memory
 first_of errors.SinkFailed = firsts.SinkFailed

@@ -1,4 +1,4 @@
--- What is known of the sets in force of a picture that is handed on, from which rewritten sets are shown to exist.
+-- What is known of the sets in force for a picture that is lent, from which rewritten sets are shown to exist. Our own.
 use Rattle.std.specs.Prelude.{◌≡◌, true}
 use Rattle.vx_layout.specs.Layouts.{HasLayout}
 use Rattle.vx_sps.specs.Set as sps

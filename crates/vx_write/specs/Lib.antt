@@ -1,4 +1,4 @@
--- What the contracts of this crate cite.
+-- The definitions that the contracts of this crate cite.
 pub mod Again
 pub mod Faults
 pub mod InForce

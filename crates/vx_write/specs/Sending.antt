@@ -1,4 +1,4 @@
--- The units of the sets that a picture needs, set by set.
+-- The units of the sets that a picture needs, set by set. Our own.
 use Rattle.std.specs.Prelude.{◌≡◌, ℕ, not, false, List, ◌++◌, filter, map}
 use Rattle.std.specs.List.{AllByRecursion}
 use Rattle.vx_pic.specs.Written.{Set, SetUnit}
@@ -7,11 +7,11 @@ use Rattle.vx_pic.specs.Resident.{is_resident}
 use Rattle.vx_write.specs.Units.{IsSetUnit}
 use Rattle.vx_write.specs.Slots.{Sent, AreLastOf}
 
--- those of needed sets that aren't resident behind these, for a picture of this TemporalId
+-- The needed sets that aren't resident after these, for a picture of this TemporalId.
 abbrev pub unsent : ℕ → List SetUnit → List SetUnit → List SetUnit
 unsent t before needed = filter (λ x. not (is_resident t before x)) needed
 
--- Of these sets, those are sent behind others that aren't resident: these are their units, and these the last sets then.
+-- Of these sets, those that aren't resident after others are sent: these are their units, and these the last sets then.
 pub record AreSent (t : ℕ) (before : List SetUnit) (sets : List Set) (slots : List Sent) (units : List (List ℕ)) : Type 0 where
   pub needed : List SetUnit
   pub of : map (λ x. x.set) needed ≡ sets
@@ -19,6 +19,6 @@ pub record AreSent (t : ℕ) (before : List SetUnit) (sets : List Set) (slots : 
   pub spelled : AllByRecursion (λ x. IsSetUnit t x.set x.unit) needed
   pub held : AreLastOf (before ++ unsent t before needed) slots
 
--- all are of other types or ids
+-- All are of other types or ids.
 abbrev pub AreOthers : Set → List Set → Type 0
 AreOthers s sets = AllByRecursion (λ x. resident.same_slot x s ≡ false) sets

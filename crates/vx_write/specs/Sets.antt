@@ -1,4 +1,4 @@
--- Sets that a picture needs, as they are lent.
+-- Sets that a picture needs, lent. Our own.
 use Rattle.std.specs.Prelude.{ℕ, ◌<◌, length}
 use Rattle.vx_bits.specs.Codes.{EndsInNoZero}
 use Rattle.vx_sps.specs.Set as sps_set
@@ -8,7 +8,7 @@ use Rattle.vx_pic.specs.Written.{Set, an_sps, a_pps, an_aps}
 use Rattle.vx_write.specs.declared.written.NeededSet.{NeededSet}
 use Rattle.vx_write.specs.declared.written.NeededSet.TheVariants as needed
 
--- the set
+-- The set.
 abbrev pub set_lent : NeededSet → Set
 set_lent (needed.Sps s) = an_sps s.now
 set_lent (needed.Pps p) = a_pps p.now
@@ -20,14 +20,14 @@ id_of (an_sps items) = sps_id items
 id_of (a_pps items) = pps_id items
 id_of (an_aps a) = a.id
 
--- the TemporalId of its unit, for a picture of this one: an SPS has TemporalId 0
+-- The TemporalId of its unit, for a picture of this one: an SPS has TemporalId 0.
 abbrev pub unit_tid : ℕ → Set → ℕ
 unit_tid t (an_sps items) = 0
 unit_tid t (a_pps items) = t
 unit_tid t (an_aps a) = t
 
--- it can be written: the items are those of a set; an adaptation parameter set has a type and an id that fit, and a body that can
--- end a unit
+-- It can be written: the items are those of a set; an adaptation parameter set has a type and an id that fit, and a body that can end a
+-- unit.
 abbrev pub CanBeWritten : Set → Type 0
 CanBeWritten (an_sps items) = sps_set.AreSpsItems items
 CanBeWritten (a_pps items) = pps_set.ArePpsItems items

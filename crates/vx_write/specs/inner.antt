@@ -1,3 +1,3 @@
--- What serves bodies and proofs alone: nothing that a caller has to believe.
+-- Definitions that only bodies and proofs use: no caller has to believe them.
 pub mod Kept
 pub mod Places

@@ -13,7 +13,7 @@ use vx_pic::is_irap_or_gdr;
 
 /// Appends the unit of a set to `units` and records it in `slots`, unless the set is resident.
 ///
-/// *Errors:* [`AllocError`] if memory runs out; `slots` is unchanged.
+/// *Errors:* [`AllocError`] if memory runs out; `slots` is unchanged, and `units` is unspecified.
 pub fn send(
     alloc: Global,
     slots: &mut Slots,

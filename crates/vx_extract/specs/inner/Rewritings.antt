@@ -1,4 +1,4 @@
--- The sets that are sent for pictures with two sets.
+-- The sets that are sent for pictures with two sets. Our own.
 use Rattle.std.specs.Prelude.{◌≡◌, ℕ, Option}
 use Rattle.vx_sps.specs.Reshaped as sps_reshaped
 use Rattle.vx_pps.specs.Reshaped as pps_reshaped

@@ -1,4 +1,4 @@
--- The units of the sets that a picture needs, set by set.
+-- The units of the sets that a picture needs, set by set. Our own.
 use Rattle.std.specs.Prelude.{ℕ, List, ◌∷◌, Option, option_map}
 use Rattle.vx_bits.specs.declared.list.Item.{Item}
 use Rattle.vx_sps.specs.Reshaped as sps_reshaped
@@ -13,11 +13,11 @@ use Rattle.vx_write.specs.Sending.{AreSent}
 use Rattle.vx_extract.specs.Written.{needed_sets}
 use Rattle.vx_extract.specs.inner.Needed.{needed_to}
 
--- the two sets, and the adaptation parameter sets that are needed of the first places
+-- The two sets, and the adaptation parameter sets that are needed of the first places.
 abbrev pub sets_to : Parts → ℕ → (sps pps : List Item) → ℕ → List Set
 sets_to q target sps pps place = an_sps sps ∷ a_pps pps ∷ needed_to q target place
 
--- What is made of a picture behind others: the units of the sets that are sent, and the SEI unit. These are the last sets then.
+-- What is made of a picture after others: the units of the sets that are sent, and the SEI unit. These are the last sets then.
 pub record IsMade (target : ℕ) (level : Option ℕ) (q : Parts) (done : List Plan) (sets : List (List ℕ)) (sei : Option (List ℕ)) (slots : List Sent) : Type 0 where
   pub sps : List Item
   pub pps : List Item

@@ -1,4 +1,4 @@
--- The frame of a round, which serves other rounds with the same sets.
+-- The frame of a round, which serves other rounds with the same sets. Our own.
 use Rattle.std.specs.Prelude.{◌≡◌, ℕ, ◌==◌, Bool, false, cond, List, length, map, Option, Some, None, IfSome}
 use Rattle.vx_bits.specs.declared.list.Item.{Item}
 use Rattle.vx_layout.specs.declared.numbers.Numbers.{Numbers}
@@ -22,15 +22,15 @@ use Rattle.vx_frame.specs.inner.Geometry.{IsGeometryOf, IsRoundGeometry, MakeFra
 
 -- ---- sets
 
--- a picture's sets and the layout that they give it, and nothing else of it
+-- A picture's sets and the layout that they give it, and nothing else of it.
 abbrev pub sets_of : Parts → Parts
 sets_of q = record no_picture { sps = q.sps; pps = q.pps; layout = q.layout }
 
--- the same of sets that are kept
+-- The same of sets that are kept.
 abbrev pub sets_in : SetItems → Parts
 sets_in x = record no_picture { sps = x.sps; pps = x.pps; layout = numbers_in x.sps x.pps }
 
--- the pictures of two rounds have the same sets
+-- The pictures of two rounds have the same sets.
 abbrev pub HaveSameSets : List Parts → List Parts → Type 0
 HaveSameSets kept round = map sets_of kept ≡ map sets_of round
 
@@ -43,15 +43,15 @@ HasSetsOf round f = AreSetsOf round f.sources.items
 
 -- ---- what is made of them
 
--- an SPS for the frame of a round, at a level or at the highest of its pictures
+-- An SPS for the frame of a round, at a level or at the highest of its pictures.
 abbrev pub IsSpsFor : List Corner → List Parts → Option ℕ → List Item → Type 0
 IsSpsFor corners round level items = sps_reshaped.IsReshapedSps (picture_at round 0).sps (frame_sps_shape corners round level) items
 
--- a PPS with an id for it
+-- A PPS with an id for it.
 abbrev pub IsPpsFor : List Corner → List Parts → Numbers → ℕ → List Item → Type 0
 IsPpsFor corners round frame id items = pps_reshaped.IsReshapedPps (picture_at round 0).pps (frame_pps_shape corners round frame id) items
 
--- Geometry, layout, SPS, the PPS with the id 0, and the one with another id, where there is one, are those of a round.
+-- Geometry, layout, SPS, the PPS with the id 0, and the one with another id, if there is one, are those of a round.
 pub record IsFrameFor (corners : List Corner) (level : Option ℕ) (round : List Parts) (f : Frame) : Type 0 where
   pub geometry : IsGeometryOf corners round f.geometry
   pub made : MakeFrame corners round f.geometry.numbers
@@ -84,7 +84,7 @@ pub record ServesAs (round : List Parts) (f other : Frame) : Type 0 where
 
 -- ---- its PPS under an id
 
--- the one with another id than 0 has this id
+-- The one with another id than 0 has this id.
 abbrev pub is_renamed : Option RenamedPps → ℕ → Bool
 is_renamed None id = false
 is_renamed (Some r) id = r.id == id
@@ -96,7 +96,7 @@ renamed_or plain (Some r) = r.pps
 abbrev pub pps_under : Frame → ℕ → List Item
 pps_under f id = cond (id == 0) f.plain (renamed_or f.plain f.renamed)
 
--- the PPS with this id is there
+-- The PPS with this id is there.
 abbrev pub HasPps : List Parts → ℕ → Frame → Type 0
 HasPps round id f = (corners : List Corner) (level : Option ℕ) → IsUsedFor corners level round f → IsPpsFor corners round f.geometry.numbers id (pps_under f id)
 
@@ -120,7 +120,7 @@ pub record HavePassed (corners : List Corner) (round : List Parts) : Type 0 wher
 
 -- ---- what the rules on sets leave
 
--- the frame that was kept serves for the round, or the geometry is that of its frame
+-- The frame that was kept serves for the round, or the geometry is that of its frame.
 abbrev pub IsRoundFrame : List Corner → Option ℕ → List Parts → RoundFrame → Type 0
 IsRoundFrame corners level round (Kept f) = IsFrameOf corners level round f.value × HavePassed corners round
 IsRoundFrame corners level round (New g) = IsRoundGeometry corners round g
@@ -128,11 +128,11 @@ IsRoundFrame corners level round (New g) = IsRoundGeometry corners round g
 abbrev pub IsSomeRound : Option ℕ → List Parts → RoundFrame → Type 0
 IsSomeRound level round frame = (corners : List Corner) × IsRoundFrame corners level round frame
 
--- this holds where the frame was kept, and else the layouts are those of the pictures
+-- This holds if the frame was kept; otherwise the layouts are those of the pictures.
 abbrev pub KnownWhereKept : Type 0 → List Parts → RoundFrame → Type 0
 KnownWhereKept OfKept round (Kept f) = OfKept
 KnownWhereKept OfKept round (New g) = g.layouts.items ≡ layouts_in round
 
--- a round with the same sets broke no rule, in regions with some corners
+-- A round with the same sets broke no rule, in regions with some corners.
 abbrev pub SomePassed : List Parts → Type 0
 SomePassed round = (corners : List Corner) × HavePassed corners round

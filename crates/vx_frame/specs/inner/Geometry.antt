@@ -1,4 +1,4 @@
--- The frame that the pictures of a round make up.
+-- The frame that the pictures of a round make up. Our own.
 use Rattle.std.specs.Prelude.{◌≡◌, ℕ, ◌≤◌, ◌<◌, List, All, length, sum_by, Option}
 use Rattle.std.specs.List.{AllByRecursion, AllZip}
 use Rattle.vx_layout.specs.declared.numbers.Numbers.{Numbers}
@@ -25,13 +25,13 @@ use Rattle.vx_frame.specs.Counts.{pps_slots}
 
 -- ---- what the rules on sets find
 
--- width and height of the frame of regions that fit together
+-- Width and height of the frame of regions that fit together.
 pub record IsFitSize (placed : List Placed) (ctb : ℕ) (size : ℕ × ℕ) : Type 0 where
   pub width : size.0 ≡ frame_width placed
   pub height : size.1 ≡ frame_height placed
   pub fit : FitTogether placed ctb
 
--- each picture has all slices of its layout
+-- Each picture has all slices of its layout.
 abbrev pub IsWhole : Parts → Type 0
 IsWhole q = length q.slices ≡ length q.layout.slices
 
@@ -40,8 +40,8 @@ AreWhole round = All IsWhole round
 
 -- ---- the frame
 
--- What is known of a round that breaks no rule, from which its frame is shown to be there: regions and tile lines have no fault, each
--- layout is that of a source of its region's size, and there aren't too many slices.
+-- What is known of a round that breaks no rule, from which its frame is shown to exist: regions and tile lines have no fault, each layout
+-- is that of a source of its region's size, and there aren't too many slices.
 pub record CanBeJoined (corners : List Corner) (round : List Parts) : Type 0 where
   pub are : AreCorners corners
   pub same : length corners ≡ length round
@@ -82,7 +82,7 @@ pub record HasShapes (corners : List Corner) (round : List Parts) (frame : Numbe
 abbrev pub FramesHaveShapes : Type 0
 FramesHaveShapes = (corners : List Corner) (round : List Parts) (frame : Numbers) → MakeFrame corners round frame → HasShapes corners round frame
 
--- It is that of the round, and what is said of it is what sets can say.
+-- It is that of the round, and sets can say what is said of it.
 pub record IsGeometryOf (corners : List Corner) (round : List Parts) (frame : FrameGeometry) : Type 0 where
   pub same : length corners ≡ length round
   pub some : 0 < length round
@@ -95,7 +95,7 @@ pub record IsGeometryOf (corners : List Corner) (round : List Parts) (frame : Fr
   pub is : IsFrame corners round frame.numbers
   pub shapes : HasShapes corners round frame.numbers
 
--- A round's corners don't stand in its frame: what is said of it is said for those of which it is the frame.
+-- A round's corners aren't part of its frame: what is said of it is said for those of which it is the frame.
 abbrev pub IsSomeGeometry : List Parts → FrameGeometry → Type 0
 IsSomeGeometry round frame = (corners : List Corner) × IsGeometryOf corners round frame
 

@@ -1,4 +1,4 @@
--- What is known of each picture of a round.
+-- What is known of each picture of a round. Our own.
 use Rattle.std.specs.Prelude.{◌≡◌, length}
 use Rattle.vx_pic.specs.Parts.{Parts}
 use Rattle.vx_write.specs.InForce.{AreInForce}

@@ -1,4 +1,4 @@
--- What is looked for in the sources of a round.
+-- What is looked for in the sources of a round. Our own.
 use Rattle.std.specs.Prelude.{◌≡◌, ℕ, ◌<◌, ⊤, IsTrue, List, flat_map, slice_get}
 use Rattle.vx_sps.specs.Subpictures.{subpics_of}
 use Rattle.vx_pic.specs.Parts.{Parts}
@@ -13,7 +13,7 @@ use Rattle.vx_frame.specs.Rules.{filter_flags, first_lists, shared_kind, shared_
 use Rattle.vx_frame.specs.inner.Borders.{has_several}
 use Rattle.vx_frame.specs.inner.Gathered.{IsLowestWith}
 
--- what was found before is so
+-- What was found before is so.
 abbrev pub IsKnown : Sought → List Parts → Type 0
 IsKnown sought.Subpictures round = ⊤
 IsKnown sought.OtherKind round = ⊤
@@ -26,7 +26,7 @@ IsKnown (sought.OtherFlags tiles slices layouts) round =
     IsLowestWith (has_several pieces.Tiles) round tiles × (IsLowestWith (has_several pieces.Slices) round slices × (layouts.now ≡ layouts_in round))
 IsKnown (sought.OtherCollocated first) round = first ≡ slice_get (flat_map collocated round) 0
 
--- source k has it
+-- Source k has it.
 abbrev pub Has : Sought → List Parts → ℕ → Type 0
 Has sought.Subpictures round k = 1 < subpics_of (picture_at round k).sps
 Has sought.OtherKind round k = UnlikeFirst shared_kind round k

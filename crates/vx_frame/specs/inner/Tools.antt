@@ -1,4 +1,4 @@
--- The rules on tools, of the SPS or of the PPS of each picture.
+-- The rules on tools, of the SPS or of the PPS of each picture. Our own.
 use Rattle.std.specs.Prelude.{ℕ, List}
 use Rattle.vx_bits.specs.declared.list.Item.{Item}
 use Rattle.vx_pic.specs.Parts.{Parts}
@@ -12,7 +12,7 @@ abbrev pub kept_in : SetKind → Parts → List Item
 kept_in Sps = kept_sps
 kept_in Pps = kept_pps
 
--- the rule on it, and the field that is told
+-- The rule on it, and the field of the refusal.
 abbrev pub rule_of : SetKind → List Parts → Rule
 rule_of Sps = sps_tools
 rule_of Pps = pps_tools

@@ -1,4 +1,4 @@
--- Feeds over streams in memory, each with so many pictures to come.
+-- Feeds over streams in memory, each with m pictures to come. Our own.
 use Rattle.std.specs.Prelude.{◌≡◌, ℕ, suc, ◌<◌, ◌≤◌, List, [], ◌∷◌, drop, length, Some, None, slice_get, Result, Ok, Err}
 use Rattle.std.specs.List.{AllZip}
 use Rattle.vx_pic.specs.Bytes.{AreSourcePictures}
@@ -15,18 +15,18 @@ use Rattle.vx_assemble.specs.Memory.{HasSeen}
 use Rattle.vx_write.specs.declared.fault.WriteError.{WriteError}
 use Rattle.vx_write.specs.declared.fault.WriteError.TheVariants as errors
 
--- it has come to no picture of these bytes
+-- It has taken no picture of these bytes.
 abbrev pub IsUnfed : Feeding → List ℕ → Type 0
 IsUnfed f bytes = (R : Readers) → HasSeen R f bytes []
 
--- Of a stream of these pictures, the latest first, it has come to all but the last m.
+-- Of a stream of these pictures, the latest first, it has taken all except the last m.
 pub record Waits (R : Readers) (m : ℕ) (f : Feeding) (ps : List Picture) : Type 0 where
   pub bytes : List ℕ
   pub read : AreSourcePictures R bytes ps None
   pub within : m ≤ length ps
   pub seen : HasSeen R f bytes (drop m ps)
 
--- And it holds the one that it came to last.
+-- And it lends the one that it took last.
 pub record Lends (R : Readers) (m : ℕ) (f : Feeding) (ps : List Picture) : Type 0 where
   pub waits : Waits R m f ps
   pub holds : HasPicture f.assembler
@@ -34,7 +34,7 @@ pub record Lends (R : Readers) (m : ℕ) (f : Feeding) (ps : List Picture) : Typ
   pub latest : drop m ps ≡ picture ∷ drop (suc m) ps
   pub lent : lent_by f.assembler ≡ parts_of picture
 
--- each of these feeds has one more picture to come
+-- Each of these feeds has one more picture to come.
 pub record AllWait (R : Readers) (feeds : List Feeding) : Type 0 where
   pub left : ℕ
   pub sources : List (List Picture)
@@ -46,7 +46,7 @@ Turned old new k xs ys = (j : ℕ) (x : _) (y : _) → slice_get xs j ≡ Some x
 
 -- ---- what is answered where no rule is broken: nothing but memory may be wanting
 
--- there is a picture to come
+-- There is a picture to come.
 abbrev pub IsToPicture : Result Step AssembleFault → Type 0
 IsToPicture (Ok ToPicture) = Unit {0}
 IsToPicture (Ok ToEnd) = ⊥
@@ -54,7 +54,7 @@ IsToPicture (Err faults.Memory) = Unit {0}
 IsToPicture (Err (faults.Refused r)) = ⊥
 IsToPicture (Err (faults.Stopped first)) = ⊥
 
--- a picture is written to memory
+-- A picture is written to memory.
 abbrev pub IsUnbarred : Result (Unit {0}) WriteError → Type 0
 IsUnbarred (Ok _) = Unit {0}
 IsUnbarred (Err errors.Memory) = Unit {0}

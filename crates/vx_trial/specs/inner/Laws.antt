@@ -1,4 +1,4 @@
--- What holds of generated streams and of their merge.
+-- What holds of generated streams and of their merge. Our own.
 use Rattle.std.specs.Prelude.{ℕ, ◌≤◌, List, map}
 use Rattle.std.specs.List.{range_with_len}
 use Rattle.vx_pic.specs.H266.{AreOfH266}
@@ -10,7 +10,7 @@ use Rattle.vx_gen.specs.Streams.{generated}
 use Rattle.vx_trial.specs.inner.Merges.{CanBeTried, IsMergeOf}
 use Rattle.vx_trial.specs.inner.Regions.{AllCanBeExtracted}
 
--- the pictures of generated streams, as they are read
+-- The pictures of generated streams, as they are read.
 abbrev pub sources_of : (seed sources pictures : ℕ) → List (List Picture)
 sources_of seed sources pictures = map (planned seed pictures) (range_with_len 0 sources)
 

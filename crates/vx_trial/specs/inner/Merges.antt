@@ -1,4 +1,4 @@
--- Streams that are merged, a round of their pictures after the other.
+-- Streams that are merged, one round of their pictures after another. Our own.
 use Rattle.std.specs.Prelude.{◌≡◌, ℕ, suc, ◌<◌, ◌≤◌, List, ◌∷◌, ◌++◌, drop, length, map, Some, None}
 use Rattle.std.specs.List.{AllByRecursion, AllZip}
 use Rattle.vx_bits.specs.declared.refusal.Refusal.{Refusal}
@@ -18,11 +18,11 @@ use Rattle.vx_trial.specs.inner.Feeds.{Waits}
 
 -- ---- streams
 
--- the pictures of streams before the last m, the latest first
+-- The pictures of streams before the last m, the latest first.
 abbrev pub before_last : {A : Type 0} → ℕ → List (List A) → List (List A)
 before_last m sources = map (λ ps. drop m ps) sources
 
--- Whatever was written of the rounds before, the one behind which there are m more isn't barred.
+-- Whatever was written of the rounds before, the round after which m more come isn't barred.
 abbrev pub GoesOn : List Corner → List (List Picture) → ℕ → Type 0
 GoesOn corners sources m = (round : List Picture) (done : List Plan) (r : Refusal) → lasts (before_last m sources) ≡ map (λ p. Some p) round
     → AreMerged corners None (before_last (suc m) sources) done → ¬ IsBarred corners None (map parts_of round) done r
@@ -32,7 +32,7 @@ pub record HasSlices (p : Picture) : Type 0 where
   pub tid : p.kind.temporal_id ≤ 6
   pub some : 0 < length (inputs_of p 0)
 
--- Streams that are read as these pictures, so many of each, of whose rounds none is barred.
+-- Streams that are read as these pictures, n of each, none of whose rounds is barred.
 pub record CanBeTried (R : Readers) (corners : List Corner) (count : ℕ) (streams : List (List ℕ)) (sources : List (List Picture)) : Type 0 where
   pub read : AllZip (λ stream ps. AreSourcePictures R stream ps None) streams sources
   pub same : length corners ≡ length sources
@@ -48,7 +48,7 @@ pub record IsMergeOf (corners : List Corner) (sources : List (List Picture)) (by
 
 -- ---- a merge that goes on
 
--- A round of these pictures is written behind others, and a merger that was one thing is another.
+-- A round of these pictures is written after others, and a merger went from one state to another.
 pub record IsWrittenOn (round : List Parts) (done : List Plan) (old new : Merging) (bytes bytes' : List ℕ) : Type 0 where
   pub plan : Plan
   pub passes : Passes old.corners old.level round done plan
@@ -66,7 +66,7 @@ pub record HasMerged (R : Readers) (m : ℕ) (sources : List (List Picture)) (fe
   pub rounds : AreMerged x.corners None (before_last m sources) done
   pub written : bytes ≡ written (units_written done)
 
--- one more is to come
+-- One more is to come.
 pub record MayMerge (R : Readers) (feeds : List Feeding) (x : Merging) (bytes : List ℕ) : Type 0 where
   pub left : ℕ
   pub sources : List (List Picture)

@@ -1,4 +1,4 @@
--- Regions of a merge, which are extracted.
+-- Regions of a merge, which are extracted. Our own.
 use Rattle.std.specs.Prelude.{◌≡◌, ℕ, suc, ◌<◌, true, List, ◌∷◌, ◌++◌, drop, length, map, None}
 use Rattle.std.specs.List.{AllByRecursion}
 use Rattle.vx_annexb.specs.Laws.{written}
@@ -20,7 +20,7 @@ pub record HasRegion (k : ℕ) (q : Parts) : Type 0 where
   pub kept : is_kept 6 q ≡ true
   pub slice : HasSlice k q
 
--- Bytes that are read as these pictures, so many, of each of which region k can be extracted.
+-- Bytes that are read as these pictures, `count` of them, of each of which region k can be extracted.
 pub record CanBeExtracted (R : Readers) (k count : ℕ) (bytes : List ℕ) (ps : List Picture) : Type 0 where
   pub read : AreSourcePictures R bytes ps None
   pub many : length ps ≡ count
@@ -30,7 +30,7 @@ pub record CanBeExtracted (R : Readers) (k count : ℕ) (bytes : List ℕ) (ps :
 abbrev pub AllCanBeExtracted : Readers → (n count : ℕ) → List ℕ → List Picture → Type 0
 AllCanBeExtracted R n count bytes ps = (k : ℕ) → k < n → CanBeExtracted R k count bytes ps
 
--- The region of a picture is written behind others, and an extractor that was one thing is another.
+-- The region of a picture is written after others, and an extractor went from one state to another.
 pub record IsExtractedOn (q : Parts) (done : List Plan) (old new : Extracting) (bytes bytes' : List ℕ) : Type 0 where
   pub plan : Plan
   pub is : IsExtracted old.target old.level q done plan
@@ -48,7 +48,7 @@ pub record HasExtracted (R : Readers) (m : ℕ) (ps : List Picture) (f : Feeding
   pub plans : AreExtracted x.target None (map parts_of (drop m ps)) done
   pub written : bytes ≡ written (units_written done)
 
--- one more is to come
+-- One more is to come.
 pub record MayExtract (R : Readers) (f : Feeding) (x : Extracting) (bytes : List ℕ) : Type 0 where
   pub left : ℕ
   pub pictures : List Picture
