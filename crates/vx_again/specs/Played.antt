@@ -6,8 +6,8 @@ use Rattle.vx_pic.specs.Readings.{Picture}
 use Rattle.vx_pic.specs.Rules.{Readers}
 use Rattle.vx_again.specs.Sources.{CanBeMerged}
 
--- If those of each file can be merged, then so can the first ones of all as they are played, one file after another, if each of these
--- that is joined may come first after a join.
+-- If those of each file can be merged, then so can the first ones of all as they are played, one file after another. Each of these that
+-- is joined may come first after a join.
 abbrev pub PlayedCanBeMerged : Type 0
 PlayedCanBeMerged =
     (R : Readers) (joins : ℕ → Bool) (files : List (List Picture)) (later ps : List Picture) → AreJoined joins files

@@ -50,8 +50,8 @@ pub record IsSourceSlice (q : Parts) (s : SlicePart) : Type 0 where
   pub filter : is_set (number q.sps sps.sps_alf_enabled_flag) ≡ false
       → filter_of (filter_items q.pps q.header.fields (read_of s.header)) ≡ []
 
--- A picture of a source: of its sets, its header, its slices, all those of each subpicture in the order of their addresses, its adaptation
--- parameter sets, which can be written, and its messages, which are carried.
+-- A picture of a source, by its sets, its header, and its slices, which are all those of each subpicture in the order of their addresses.
+-- Its adaptation parameter sets can be written, and its messages are carried.
 pub record IsSource (q : Parts) : Type 0 where
   pub sets : AreInForce q
   pub header : IsHeader (structures q.sps) (in_force q.sps q.pps) q.header

@@ -19,8 +19,8 @@ use Rattle.vx_frame.specs.declared.corner.Corner.{Corner}
 use Rattle.vx_again.specs.Regions.{AreOfMerge}
 use Rattle.vx_again.specs.Streams.{AreWrittenSo}
 
--- Region k of pictures can be extracted. What is extracted of those up to a TemporalId, if no IRAP or GDR picture is left out (H.266
--- C.6), is read as pictures of one subpicture with the kinds and the decoding inputs of its source.
+-- Region k of pictures can be extracted, up to a TemporalId, if no IRAP or GDR picture is left out (H.266 C.6). What is extracted is read
+-- as pictures of one subpicture with the kinds and the decoding inputs of its source.
 pub record IsExtractedAsSource (R : Readers) (k : ℕ) (ps qs : List Picture) : Type 0 where
   pub rules : AllByRecursion (λ q. refusal_of k 6 (parts_of q) ≡ None) qs
   pub again : (tid : ℕ) (level : Option ℕ) (bytes : List ℕ) → KeepsStarts tid ps

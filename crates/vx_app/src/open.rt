@@ -45,9 +45,10 @@ impl Opener for System<'_> {
     }
 }
 
-/// Opens the files that the arguments name: one entry for each, in their order. A file that can't be opened gives a closed source.
+/// Opens the files that the arguments name: one entry for each, in their order.
 ///
-/// *Errors:* [`AllocError`] if memory runs out.
+/// There is none if the arguments aren't understood. A file that can't be opened gives a closed source. *Errors:* [`AllocError`] if
+/// memory runs out.
 pub(crate) fn open_all<O: Opener>(
     alloc: Global,
     opener: &O,

@@ -145,7 +145,9 @@ pub extern "C" fn gq_extractor_push(
     )
 }
 
-/// Declares the last unit pushed complete. Returns `MISUSED` if the handle isn't that of an extractor.
+/// Declares the last unit pushed complete.
+///
+/// Returns `MISUSED` if the handle isn't that of an extractor; nothing changes.
 #[unsafe(no_mangle)]
 pub extern "C" fn gq_extractor_flush(alloc: Global, handle: &mut Handle) -> u8
     ensures { Calls Extractor handle.old.state handle.new.state result
@@ -154,7 +156,9 @@ pub extern "C" fn gq_extractor_flush(alloc: Global, handle: &mut Handle) -> u8
     call_on!(handle, alloc, Extractor, MISUSED, |cutter| flush(cutter))
 }
 
-/// Declares that there are no more bytes. Returns `MISUSED` if the handle isn't that of an extractor.
+/// Declares that there are no more bytes.
+///
+/// Returns `MISUSED` if the handle isn't that of an extractor; nothing changes.
 #[unsafe(no_mangle)]
 pub extern "C" fn gq_extractor_end(alloc: Global, handle: &mut Handle) -> u8
     ensures { Calls Extractor handle.old.state handle.new.state result

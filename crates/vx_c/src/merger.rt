@@ -148,7 +148,7 @@ pub extern "C" fn gq_merger_push(
 
 /// Declares the last unit pushed to a source complete.
 ///
-/// Returns `MISUSED` if the handle isn't that of a merger or there is no such source.
+/// Returns `MISUSED` if the handle isn't that of a merger or there is no such source; nothing changes.
 #[unsafe(no_mangle)]
 pub extern "C" fn gq_merger_flush(alloc: Global, handle: &mut Handle, source: usize) -> u8
     ensures { Calls Merger handle.old.state handle.new.state result (λ m later. HandsOver m later source with_zeros result) }
@@ -164,7 +164,7 @@ pub extern "C" fn gq_merger_flush(alloc: Global, handle: &mut Handle, source: us
 
 /// Declares that a source has no more bytes.
 ///
-/// Returns `MISUSED` if the handle isn't that of a merger or there is no such source.
+/// Returns `MISUSED` if the handle isn't that of a merger or there is no such source; nothing changes.
 #[unsafe(no_mangle)]
 pub extern "C" fn gq_merger_end(alloc: Global, handle: &mut Handle, source: usize) -> u8
     ensures { Calls Merger handle.old.state handle.new.state result (λ m later. HandsOver m later source (λ i h. with_end h) result) }

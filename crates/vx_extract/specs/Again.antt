@@ -78,8 +78,8 @@ RewrittenKeepFields =
     (target : ℕ) (level : Option ℕ) (q : Parts) (sps pps : List Item) → AreInForce q → target < subpics_of q.sps
     → AreRewritten target level q sps pps → KeepFields q sps pps
 
--- All that a picture header or a slice header finds in them is the source's: the structures of reference picture lists, and the lists of
--- a header; the numbers that picture headers depend on, and those that slice headers depend on.
+-- All that a picture header or a slice header finds in them is the source's. That is: the structures of reference picture lists, and the
+-- lists of a header; the numbers that picture headers depend on, and those that slice headers depend on.
 pub record AgreeForHeaders (q : Parts) (sps pps : List Item) : Type 0 where
   pub same_structures : structures sps ≡ structures q.sps
   pub lists : (header : List Item)
@@ -120,7 +120,7 @@ begun_alone target q sps pps = record {
 abbrev pub header_alone : SliceHeader → SliceHeader
 header_alone h = record { fields = h.fields; subpic = 0; payload = h.payload }
 
--- The same units are read under the sets: the layout is the region; picture headers are read alike, or refused alike; and each slice of
+-- The same units are read under the sets. The layout is the region; picture headers are read alike, or refused alike; and each slice of
 -- the subpicture is read with the same fields, at the same place.
 pub record ReadUnder (R : Readers) (target : ℕ) (q : Parts) (sps pps : List Item) : Type 0 where
   pub layout : R.layout sps pps ≡ Ok (region_of q.layout target)
@@ -169,9 +169,9 @@ ExtractedIsAlike =
 
 -- ---- all of them
 
--- What is known of a picture of a stream whose subpicture is written: the facts of its sets; it has the subpicture, and all slices of
--- each; its adaptation parameter sets can be written, and those that the subpicture's slices name are there; and its messages are
--- carried.
+-- What is known of a picture of a stream whose subpicture is written. There are the facts of its sets; it has the subpicture, and all
+-- slices of each; its adaptation parameter sets can be written, and those that the subpicture's slices name are there; and its messages
+-- are carried.
 pub record IsReady (target : ℕ) (picture : Picture) : Type 0 where
   pub in_force : AreInForce (parts_of picture)
   pub has : target < subpics_of picture.begun.sps

@@ -15,8 +15,8 @@ use Rattle.vx_extract.specs.Rules.{is_kept, refusal_of}
 use Rattle.vx_extract.specs.Written.{extracted_slices, IsExtracted}
 use Rattle.vx_write.specs.Slots.{Sent, held_serves}
 
--- An extractor: the subpicture, the level that is asked for, the highest TemporalId that is kept, the sets that were sent since the last
--- IRAP or GDR picture, the last of each type and id, and its first error.
+-- An extractor: the subpicture, the level that is asked for, the highest TemporalId that is kept, the last set of each type and id that
+-- was sent since the last IRAP or GDR picture, and its first error.
 pub record Extracting : Type 0 where
   pub target : ℕ
   pub level : Option ℕ

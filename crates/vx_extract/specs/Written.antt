@@ -66,8 +66,8 @@ needed_sets q target sps pps = an_sps sps ∷ a_pps pps ∷ needed_aps q target
 
 -- ---- pictures
 
--- A picture is written so after others: rewritten sets, of which those that aren't resident are sent; its messages; its header and the
--- slices of the subpicture as they are, of which there is one at least (C.7).
+-- A picture is written so after others. Of the sets, which are rewritten, those that aren't resident are sent. Then come its messages,
+-- its header, and the slices of the subpicture as they are, at least one (C.7).
 pub record IsExtracted (target : ℕ) (level : Option ℕ) (q : Parts) (done : List Plan) (p : Plan) : Type 0 where
   pub sps : sps_reshaped.IsReshapedSps q.sps (sps_shape q target level) p.begun.sps
   pub pps : pps_reshaped.IsReshapedPps q.pps (pps_shape q target) p.begun.pps

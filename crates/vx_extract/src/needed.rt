@@ -44,7 +44,7 @@ impl NamedAps {
     ghost use Rattle.vx_pic.specs.Sets.{named, named_filters};
     ghost use Rattle.vx_extract.specs.inner.Needed.{marked, all_marked, own_names, header_filters, header_names};
 
-    /// Returns a mark of no set.
+    /// Returns a list in which no set is named.
     fn none() -> NamedAps
         ensures { result ≡ replicate 24 false }
     {

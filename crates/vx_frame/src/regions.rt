@@ -140,7 +140,7 @@ pub(crate) fn layouts(alloc: Global, round: &[Picture<'_>]) -> Result<Vec<Number
 
 /// Returns the tile lines of the frame of these regions: those that pass through a region are the region's own.
 ///
-/// *Errors:* the first source whose region has other lines, or lack of memory.
+/// *Errors:* `Refused` if the lines don't fit (M5). `Memory`.
 pub(crate) fn frame_lines(
     alloc: Global,
     corners: &[Rect],

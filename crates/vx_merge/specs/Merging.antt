@@ -1,5 +1,5 @@
--- A merger, as its callers see it: by these definitions, and by the relation `Stands` between it and the pictures that it has written, or
--- that have passed its checks: a merger either checks or writes. Our own.
+-- A merger, as its callers see it: by these definitions, and by the relation `Stands`. That is one between the merger and the pictures
+-- that it has written, or that have passed its checks: a merger either checks or writes. Our own.
 use Rattle.std.specs.Prelude.{◌≡◌, ◌⊎◌, ℕ, List, ◌∷◌, length, Option, Some, None, Result, Ok, Err}
 use Rattle.std.specs.Io.KnownBytes.{Appends}
 use Rattle.vx_bits.specs.declared.refusal.Refusal.{Refusal}
@@ -18,8 +18,8 @@ use Rattle.vx_frame.specs.Rules.{rules_of}
 use Rattle.vx_frame.specs.Verdict.{IsVerdict}
 use Rattle.vx_merge.specs.Written.{IsMerged, limits_of}
 
--- A merger: the corners of the regions, in luma samples; the level that is asked for; the sets that were sent since the last IRAP or GDR
--- picture, the last of each type and id; how many bytes were written; and its first error. What passes a check counts as sent and as
+-- A merger: the corners of the regions, in luma samples; the level that is asked for; the last set of each type and id that was sent
+-- since the last IRAP or GDR picture; how many bytes were written; and its first error. What passes a check counts as sent and as
 -- written.
 pub record Merging : Type 0 where
   pub corners : List Corner

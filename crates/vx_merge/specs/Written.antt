@@ -25,7 +25,7 @@ use Rattle.vx_merge.specs.Needed.{Ids, TakeIds, sets_of_round}
 -- ---- pictures
 
 -- A round is written so after others, as a picture of source 0's kind. The sets that it needs are the SPS and the PPS of its frame and
--- the bodies that its slices and its header name; those that aren't resident are sent, with the ids that they take. Then come source 0's
+-- the bodies that its slices and its header name. Those that aren't resident are sent, with the ids that they take. Then come source 0's
 -- messages, one picture header, and the slices of all sources. All units are bytes.
 pub record IsMerged (corners : List Corner) (level : Option ℕ) (round : List Parts) (done : List Plan) (p : Plan) : Type 0 where
   pub kind : p.kind ≡ (picture_at round 0).kind

@@ -72,7 +72,7 @@ pub record HasCut (R : Readers) (t : Task) (c : Cutting) (h : Handed) (ps : List
   pub holds : (kind : Kind) → c.held ≡ Some kind → (p : Plan) × (before : List Plan) × (done ≡ p ∷ before) × HoldsPicture c p
   pub ended : (end : Cut) → c.end ≡ Some end → HasEndedBy R t h ps end
 
--- ---- what is answered
+-- ---- what is returned
 
 -- The stream isn't known further: these pictures are complete in what was pushed, however it goes on; and its end wasn't declared.
 pub record IsAwaited (R : Readers) (h : Handed) (ps : List Picture) : Type 0 where

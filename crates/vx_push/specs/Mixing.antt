@@ -83,7 +83,7 @@ pub record HasMixed (R : Readers) (m : Mixing) (given : List Handed) (done : Lis
   pub holds : (kind : Kind) → m.held ≡ Some kind → (p : Plan) × (before : List Plan) × (done ≡ p ∷ before) × HoldsRound m p
   pub ended : (end : Mixed) → m.end ≡ Some end → HasEndedBy R m.merger given done end
 
--- ---- what is answered
+-- ---- what is returned
 
 -- Source k isn't known further: n pictures are complete in what was pushed of it, however it goes on; and its end wasn't declared.
 pub record IsAwaited (R : Readers) (given : List Handed) (n k : ℕ) : Type 0 where

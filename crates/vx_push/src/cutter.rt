@@ -30,7 +30,8 @@ pub enum Cut {
 /// Extracts a subpicture of a byte stream that is pushed as it arrives.
 ///
 /// It holds at most one picture of output, until that is taken. It writes what `extract` writes of the same stream. After the end, a
-/// refusal or lack of memory [`next`](Cutter::next) returns that again.
+/// refusal or lack of memory [`next`](Cutter::next) returns that again. No clause says that `flush` and `end` keep a picture that is
+/// held.
 #[derive(Drop)]
 pub struct Cutter {
     alloc: Global,

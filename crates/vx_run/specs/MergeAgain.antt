@@ -11,13 +11,13 @@ use Rattle.vx_run.specs.Rounds.{Stream}
 abbrev pub IsToldBy : Readers → Stream → Type 0
 IsToldBy R s = (b : List ℕ) × AreSourcePictures R b s.pictures s.ending
 
--- its first n pictures, the latest first
+-- Its first n pictures, the latest first.
 abbrev pub first_pictures : ℕ → Stream → List Picture
 first_pictures n s = reverse (take n (reverse s.pictures))
 
--- The bytes have exactly the pictures of the merge of those of several sources, in regions with these corners: one for each round, in
--- order, of the kind and count that all pictures of the round have, and with the messages of source 0's. Subpicture k stands at corner k,
--- its slices have the decoding inputs of source k's, and it can be extracted. No rule refuses these bytes; nor as a source.
+-- The bytes have exactly the pictures of the merge of those of several sources, in regions with these corners. There is one for each
+-- round, in order, of the kind and count that all pictures of the round have, and with the messages of source 0's. Subpicture k is at
+-- corner k, its slices have the decoding inputs of source k's, and it can be extracted. No rule refuses these bytes; nor as a source.
 pub record IsMergedAgain (R : Readers) (corners : List Corner) (sources : List (List Picture)) (bytes : List ℕ) : Type 0 where
   pub pictures : List Picture
   pub merge : IsReadAsMerge R corners sources bytes pictures

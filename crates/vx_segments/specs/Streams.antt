@@ -61,8 +61,8 @@ pub record CutStream : Type 0 where
 abbrev pub IsJoined : CutStream → Type 0
 IsJoined s = (qs : List Picture) × (s.all ≡ qs ++ s.before) × PicturesAlike s.own qs
 
--- It is so of bytes: of the segments before, b, after whose last picture comes no end of sequence and no message, and of the segment, c,
--- in which no sequence ends; no rule refuses either, or both, one after the other.
+-- It is so of bytes: b of the segments before, and c of the segment. After the last picture of b comes no end of sequence and no message,
+-- and in c no sequence ends. No rule refuses either, or both, one after the other.
 pub record IsCutStream (R : Readers) (b c : List ℕ) (s : CutStream) : Type 0 where
   pub before : ArePictures R b true s.before None
   pub own : ArePictures R c true s.own None

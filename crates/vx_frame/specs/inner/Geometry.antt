@@ -40,7 +40,7 @@ AreWhole round = All IsWhole round
 
 -- ---- the frame
 
--- What is known of a round that breaks no rule, from which its frame is shown to exist: regions and tile lines have no fault, each layout
+-- What is known of a round that breaks no rule, from which its frame is shown to exist. Regions and tile lines have no fault, each layout
 -- is that of a source of its region's size, and there aren't too many slices.
 pub record CanBeJoined (corners : List Corner) (round : List Parts) : Type 0 where
   pub are : AreCorners corners

@@ -15,7 +15,7 @@ use Rattle.vx_run.specs.Run.{Runs}
 use Rattle.vx_run.specs.Show.{WhereKnown}
 use Rattle.vx_run.specs.Verify.{EndsVerified, spots_of}
 
--- ---- words that are not understood
+-- ---- arguments that are not understood
 
 -- Status 2 comes if and only if the arguments are not understood.
 abbrev pub Status2IsExact : (A K E : Type 0) → Type 0
@@ -49,8 +49,8 @@ IsWritable corners level ss = (done : List Plan) × EndsWritten corners level ss
 abbrev pub IsPlayable : List Corner → Option ℕ → List ℕ → List Stream → Type 0
 IsPlayable corners level regions files = (done : List Plan) × EndsPlayed corners level regions files done (Ok tt)
 
--- All streams end well with equally many pictures; in each round the finished picture has a subpicture for each source, at its place and with
--- the decoding inputs of the source's picture, which has one subpicture; and it has no other.
+-- All streams end well with equally many pictures. In each round the finished picture has a subpicture for each source and no other: at
+-- its place, and with the decoding inputs of the source's picture, which has one subpicture.
 abbrev pub IsVerifiedMerge : List Spot → List Stream → Type 0
 IsVerifiedMerge spots ss = (n : ℕ) × EndsVerified spots ss n (Ok tt)
 
