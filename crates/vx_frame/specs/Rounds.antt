@@ -24,7 +24,7 @@ no_picture = record {
 abbrev pub picture_at : List Parts → ℕ → Parts
 picture_at round k = slice_index_or round k no_picture
 
--- ---- how sources differ in something that is told of each picture
+-- ---- how sources differ in something that each picture has
 
 -- Source k's is another than source 0's.
 abbrev pub UnlikeFirst : {A : Type 0} → (Parts → A) → List Parts → ℕ → Type 0

@@ -33,7 +33,7 @@ use Rattle.vx_frame.specs.Rounds.{SomeUnlikeFirst, UnlikeFirst, UnlikeLowest, pi
 use Rattle.vx_frame.specs.Counts.{alf_slots}
 use Rattle.vx_frame.specs.Verdict.{Rule, IsVerdict}
 
--- ---- what is told of a broken rule
+-- ---- the refusal of a broken rule
 
 -- The source that breaks it.
 abbrev pub of_source : ℕ → (ℕ → Type 0) → Rule

@@ -39,7 +39,7 @@ pub record SameTask (old new : Merging) : Type 0 where
   pub corners : new.corners ≡ old.corners
   pub level : new.level ≡ old.level
 
--- ---- a round behind others, in regions with these corners
+-- ---- a round after others, in regions with these corners
 
 -- This is the verdict on it.
 abbrev pub Judges : List Corner → List Parts → Option Refusal → Type 0
@@ -62,7 +62,7 @@ pub record IsTooLong (corners : List Corner) (level : Option ℕ) (round : List 
 abbrev pub IsBarred : List Corner → Option ℕ → List Parts → List Plan → Refusal → Type 0
 IsBarred corners level round done r = Judges corners round (Some r) ⊎ IsTooLong corners level round done r
 
--- ---- what a merger answers
+-- ---- what a merger returns
 
 -- The result of a check of a round after others, which count as written: it passes, and counts as written too; or a rule or a limit is
 -- broken; or memory ran out.

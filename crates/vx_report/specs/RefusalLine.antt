@@ -10,7 +10,7 @@ use Rattle.vx_aps.specs.declared.aps.TheConstants as aps
 use Rattle.vx_pic.specs.declared.sets.TheConstants as sets
 use Rattle.vx_report.specs.declared.refusal.Where.{Where}
 
--- ---- words
+-- ---- names
 
 -- A cause, by its name.
 abbrev pub cause_word : BitCause → List ℕ

@@ -108,7 +108,7 @@ input_check finished round = record {
   tells = TellsInput finished round;
 }
 
--- ---- what is told
+-- ---- the mismatch
 
 -- The first check that a file fails, by its code, and the lowest such file.
 abbrev pub IsMismatch : List Spot → Parts → List Parts → Mismatch → Type 0

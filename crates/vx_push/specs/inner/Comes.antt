@@ -103,7 +103,7 @@ StepsBehind R i h ps (states.Refused r n) =
     OfEachStream R h (λ qs ending. (qs ≡ ps) × (ending ≡ Some (record { units = n; refusal = r })))
 StepsBehind R i h ps states.NoMemory = OfEachStream R h (λ qs ending. BeginsWithPictures qs ps)
 
--- ---- what a feed comes to in the bytes that it was given
+-- ---- what a feed finds in the bytes that it was given
 
 -- It is refused for this after the units of these pictures.
 pub record IsStopped (R : Readers) (f : Feeding) (g : List ℕ) (ps : List Picture) (r : Refusal) (n : ℕ) : Type 0 where

@@ -44,7 +44,7 @@ pub record AllWait (R : Readers) (feeds : List Feeding) : Type 0 where
 abbrev pub Turned : {A B : Type 0} → (old new : A → B → Type 0) → ℕ → List A → List B → Type 0
 Turned old new k xs ys = (j : ℕ) (x : _) (y : _) → slice_get xs j ≡ Some x → slice_get ys j ≡ Some y → (j < k → new x y) × (k ≤ j → old x y)
 
--- ---- what is answered where no rule is broken: nothing but memory may be wanting
+-- ---- results if no rule is broken: only memory can be lacking
 
 -- There is a picture to come.
 abbrev pub IsToPicture : Result Step AssembleFault → Type 0
