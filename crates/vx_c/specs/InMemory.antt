@@ -10,7 +10,7 @@ use Rattle.vx_run.specs.Conclusion.{status_of, line_of}
 abbrev pub words_in : List ℕ → List (List ℕ)
 words_in text = slice_split (λ byte. byte == 10) text
 
--- these streams, of these sizes, stand one after another in the bytes, and nothing else does
+-- These streams, of these sizes, are the bytes, one after another.
 pub record AreStreams (bytes : List ℕ) (sizes : List ℕ) (streams : List (List ℕ)) : Type 0 where
   pub joined : concat streams ≡ bytes
   pub lengths : map length streams ≡ sizes

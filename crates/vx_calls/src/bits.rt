@@ -8,12 +8,12 @@ use vx_bits::{BitCause, BitReader, BitWriter};
 /// The most bytes that are read bit by bit.
 pub(crate) const MOST_READ: usize = 1 << 23;
 
-/// - `bits BYTES CALL ..` reads: `uN`, `ue`, `se`, `align`, `one` for a one and zeros, `trailing`; each behind `~` on a fork. It tells
-///   what each answers, 0 for an alignment, and behind `@` the place.
-/// - `code CALL .. END` writes `uN=V`, `ue=V`, `se=V`, `align` and `one`, and tells the bytes: END is `close`, or `bytes` for those of
+/// - `bits BYTES CALL ..` reads: `uN`, `ue`, `se`, `align`, `one` for a one and zeros, `trailing`; each after `~` on a fork. It prints
+///   what each returns, 0 for an alignment, and after `@` the place.
+/// - `code CALL .. END` writes `uN=V`, `ue=V`, `se=V`, `align` and `one`, and prints the bytes: END is `close`, or `bytes` for those of
 ///   an aligned writer.
-/// - `codes N` writes the numbers below N, each as ue(v) and as u(32), reads them again, and tells of the bytes, how many numbers are
-///   the same, and what stands behind.
+/// - `codes N` writes the numbers below N, each as ue(v) and as u(32), reads them again, and prints of the bytes, how many numbers are
+///   the same, and what comes after.
 pub(crate) fn answer(text: &mut String, alloc: Global, verb: &str, words: &[&str]) -> Result<()> {
     match (verb, words) {
         ("bits", [bytes, calls @ ..]) => read_calls(text, alloc, bytes, calls),
@@ -23,7 +23,7 @@ pub(crate) fn answer(text: &mut String, alloc: Global, verb: &str, words: &[&str
     }
 }
 
-/// Tells what calls of a reader of bytes answer.
+/// Appends what calls of a reader of bytes return.
 fn read_calls(text: &mut String, alloc: Global, bytes: &str, calls: &[&str]) -> Result<()> {
     let bytes = bytes_of(alloc, bytes)?;
     if bytes.len() > MOST_READ {
@@ -36,7 +36,7 @@ fn read_calls(text: &mut String, alloc: Global, bytes: &str, calls: &[&str]) -> 
     Ok(())
 }
 
-/// Makes one call, maybe of a fork, and tells of it.
+/// Makes one call, perhaps of a fork, and appends its result.
 fn read_call(text: &mut String, bits: &mut BitReader<'_>, call: &str) -> Result<()> {
     match call.strip_prefix('~') {
         Some(call) => tell_call(text, &mut bits.fork(), call),
@@ -44,7 +44,7 @@ fn read_call(text: &mut String, bits: &mut BitReader<'_>, call: &str) -> Result<
     }
 }
 
-/// Makes one call, and tells of it.
+/// Makes one call, and appends its result.
 fn tell_call(text: &mut String, bits: &mut BitReader<'_>, call: &str) -> Result<()> {
     let taken = take(bits, call)?;
     push_gap(text)?;
@@ -55,7 +55,7 @@ fn tell_call(text: &mut String, bits: &mut BitReader<'_>, call: &str) -> Result<
     Ok(())
 }
 
-/// What a call of a reader answers; 0 for an alignment.
+/// Returns what a call of a reader returns; 0 for an alignment.
 fn take(bits: &mut BitReader<'_>, call: &str) -> Result<Result<i64, BitCause>> {
     match call {
         "ue" => Ok(bits.ue().map(i64::from)),
@@ -67,12 +67,12 @@ fn take(bits: &mut BitReader<'_>, call: &str) -> Result<Result<i64, BitCause>> {
     }
 }
 
-/// What a call answers that gives no number.
+/// Returns the result of a call that gives no number.
 fn without_number(answer: Result<(), BitCause>) -> Result<i64, BitCause> {
     answer.map(|()| 0)
 }
 
-/// What `u` answers.
+/// Returns what `u` returns.
 fn take_fixed(bits: &mut BitReader<'_>, width: u32) -> Result<Result<i64, BitCause>> {
     if width > 32 {
         bail!("more than 32 bits");
@@ -83,13 +83,13 @@ fn take_fixed(bits: &mut BitReader<'_>, width: u32) -> Result<Result<i64, BitCau
     }
 }
 
-/// The number of bits of `uN`.
+/// Returns the number of bits of `uN`.
 fn width_of(call: &str) -> Result<u32> {
     let width = call.strip_prefix('u').context("no such call of bits")?;
     Ok(width.parse::<u32>()?)
 }
 
-/// Tells the bytes that calls of a writer write.
+/// Appends the bytes that calls of a writer write.
 fn write_calls(text: &mut String, alloc: Global, calls: &[&str], end: &str) -> Result<()> {
     let mut bits = BitWriter::new(alloc);
     write_each(&mut bits, calls)?;
@@ -105,7 +105,7 @@ fn write_each(bits: &mut BitWriter, calls: &[&str]) -> Result<()> {
     Ok(())
 }
 
-/// The bytes of a writer.
+/// Returns the bytes of a writer.
 fn end_bits(bits: BitWriter, end: &str) -> Result<Vec<u8>> {
     match end {
         "close" => Ok(bits.close()?),
@@ -153,7 +153,7 @@ fn write_alignment(bits: &mut BitWriter, call: &str) -> Result<()> {
     }
 }
 
-/// Tells what is written of the numbers below this one, and how it is read again.
+/// Appends what is written of the numbers below this one, and how it is read again.
 fn there_and_back(text: &mut String, alloc: Global, count: u32) -> Result<()> {
     let bytes = long_bits(alloc, count)?;
     if bytes.len() > MOST_READ {
@@ -165,7 +165,7 @@ fn there_and_back(text: &mut String, alloc: Global, count: u32) -> Result<()> {
     tell_call(text, &mut bits, "trailing")
 }
 
-/// The codes of the numbers below this one.
+/// Returns the codes of the numbers below this one.
 fn long_bits(alloc: Global, count: u32) -> Result<Vec<u8>, AllocError> {
     let mut bits = BitWriter::new(alloc);
     for number in 0..count {
@@ -175,7 +175,7 @@ fn long_bits(alloc: Global, count: u32) -> Result<Vec<u8>, AllocError> {
     bits.close()
 }
 
-/// Reads the numbers below this one, and gives how many are right in front.
+/// Reads the numbers below this one, and returns how many are right from the first on.
 fn same_numbers(bits: &mut BitReader<'_>, count: u32) -> u32 {
     for number in 0..count {
         if bits.ue() != Ok(number) || bits.u(32) != Ok(u64::from(number)) {

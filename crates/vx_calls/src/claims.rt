@@ -110,7 +110,7 @@ const DEEP: [Row; 29] = table! {
     wide;
 };
 
-/// The structure of a name.
+/// Returns the structure of a name.
 pub(crate) fn claimed(alloc: Global, name: &str) -> Result<Structure> {
     let parts = match name {
         "on-the-flag" => parts![WIDTH, flag => NAME],
@@ -122,7 +122,7 @@ pub(crate) fn claimed(alloc: Global, name: &str) -> Result<Structure> {
     Ok(Structure::Parts(Vec::from_array(alloc, parts)?))
 }
 
-/// The table of a name.
+/// Returns the table of a name.
 fn table_of(name: &str) -> Result<&'static [Row]> {
     match name {
         "deep" => Ok(&DEEP),

@@ -41,7 +41,7 @@ const BEHIND: [Row; 4] = table! {
     trailing trailing_bits;
 };
 
-/// The cell of a share of what is left.
+/// Returns the cell of a share of what is left.
 const fn share_cell(left: u32) -> Cell<u32>
     ensures { result ≡ example.share left }
 {
@@ -76,7 +76,7 @@ fn code_shares<I, C: Coder<I>>(scope: &Scope, coder: &mut C, items: &mut I) -> R
     Ok(())
 }
 
-/// The walk over the structure, for every coder.
+/// Walks over the structure, for every coder.
 #[tactic(auto, unfolding(crate::specs::Composite::composite), using(vx_table::proofs::Steps::then, vx_table::proofs::Steps::stop))]
 fn code_composite<I, C: Coder<I>>(
     scope: &mut Scope,
@@ -136,13 +136,13 @@ pub(crate) fn rewrite(
     code_composite(scope, rewriter, into)
 }
 
-/// What its fields depend on, by the laws of its parts; and that the test refuses wrong claims.
+/// States what its fields depend on, by the laws of its parts; and that the test refuses wrong claims.
 pub(crate) fn composite_depends()
     ensures right { CompositeDepends FRONT BEHIND }
     ensures wrong { WrongClaimsFail FRONT BEHIND }
 {}
 
-/// That it can be rewritten with other shares.
+/// States that it can be rewritten with other shares.
 pub(crate) fn composite_is_rewritten()
     ensures { CompositeIsRewritten FRONT BEHIND }
 {}

@@ -14,9 +14,9 @@ use vx_layout::{Bounds, Numbers, Rect};
 /// The CTU size of regions that are given in CTUs.
 const CTB: u32 = 32;
 
-/// - `fit CTB RECT ..` tells the size of the frame of regions in luma samples, or why they don't fit.
-/// - `lines RECT:COLUMNS:ROWS ..` tells the tile lines of the frame of regions in CTUs, with the explicit sizes of their tile columns and
-///   tile rows, or the region that doesn't keep its own.
+/// - `fit CTB RECT ..` prints the size of the frame of regions in luma samples, or why they don't fit.
+/// - `lines RECT:COLUMNS:ROWS ..` prints the tile lines of the frame of regions in CTUs, with the explicit sizes of their tile columns
+///   and tile rows, or the region that doesn't keep its own.
 pub(crate) fn answer(text: &mut String, alloc: Global, verb: &str, words: &[&str]) -> Result<()> {
     match (verb, words) {
         ("fit", [ctb, regions @ ..]) => tell_fit(text, alloc, ctb.parse::<u32>()?, regions),
@@ -25,7 +25,7 @@ pub(crate) fn answer(text: &mut String, alloc: Global, verb: &str, words: &[&str
     }
 }
 
-/// Tells whether regions fit.
+/// Appends whether regions fit.
 fn tell_fit(text: &mut String, alloc: Global, ctb: u32, regions: &[&str]) -> Result<()> {
     let mut placed = Vec::new(alloc);
     for word in regions {
@@ -36,7 +36,7 @@ fn tell_fit(text: &mut String, alloc: Global, ctb: u32, regions: &[&str]) -> Res
     Ok(write!(text, "{answer:?}")?)
 }
 
-/// Whether regions fit.
+/// Returns whether regions fit.
 fn fit(placed: &[Placed], ctb: u32) -> Result<Result<(u32, u32), FitFault>> {
     if placed.is_empty() || placed.len() > 64 || ctb < 1 {
         bail!("no regions, or too many");
@@ -47,7 +47,7 @@ fn fit(placed: &[Placed], ctb: u32) -> Result<Result<(u32, u32), FitFault>> {
     Ok(fit_regions(placed, ctb))
 }
 
-/// Whether a region has numbers that it may have.
+/// Returns whether a region has numbers that it may have.
 fn is_in_range(region: Placed) -> bool
     ensures { OnTrue result (IsInRange region) }
 {
@@ -60,7 +60,7 @@ fn is_in_range(region: Placed) -> bool
     1 <= region.h && region.h <= 16384
 }
 
-/// Whether regions have such numbers.
+/// Returns whether regions have such numbers.
 fn are_in_range(placed: &[Placed]) -> bool
     ensures { OnTrue result (All IsInRange placed.now) }
 {
@@ -72,7 +72,7 @@ fn are_in_range(placed: &[Placed]) -> bool
     true
 }
 
-/// Whether pictures have the sizes of their regions.
+/// Returns whether pictures have the sizes of their regions.
 fn are_sized(corners: &[Rect], parts: &[Numbers]) -> bool
     ensures { OnTrue result (AllZip IsSized corners.now parts.now) }
 {
@@ -87,7 +87,7 @@ fn are_sized(corners: &[Rect], parts: &[Numbers]) -> bool
     true
 }
 
-/// Whether a picture has the size of its region.
+/// Returns whether a picture has the size of its region.
 fn is_sized(region: Rect, part: &Numbers) -> bool
     ensures { OnTrue result (IsSized region part.now) }
 {
@@ -100,14 +100,14 @@ fn is_sized(region: Rect, part: &Numbers) -> bool
     part.columns.last() == region.w && part.rows.last() == region.h
 }
 
-/// The CTUs of regions.
+/// Returns the CTUs of regions.
 fn in_ctus(alloc: Global, placed: &[Placed]) -> Result<Vec<Rect>, AllocError>
     ensures { IfOk result (λ corners. corners.items ≡ map (in_ctus CTB) placed.now) }
 {
     placed.iter().map(|p| p.in_ctus(CTB)).collect(alloc)
 }
 
-/// The lines of the frame that regions make up.
+/// Returns the lines of the frame that regions make up.
 fn lines(
     alloc: Global,
     placed: &[Placed],
@@ -127,7 +127,7 @@ fn lines(
     Ok(fit_lines(alloc, &corners, parts))
 }
 
-/// A region of a word, as it is placed and as its picture.
+/// Returns a region of a word, as it is placed and as its picture.
 fn part_of(alloc: Global, word: &str) -> Result<(Placed, Numbers)> {
     let (corner, sizes) = word.split_once(':').context("no columns")?;
     let (columns, rows) = sizes.split_once(':').context("no rows")?;
@@ -143,7 +143,7 @@ fn part_of(alloc: Global, word: &str) -> Result<(Placed, Numbers)> {
     Ok((placed, empty_picture(alloc, columns, rows)))
 }
 
-/// Tells of the lines of regions.
+/// Appends the lines of regions.
 fn tell_lines(text: &mut String, alloc: Global, regions: &[&str]) -> Result<()> {
     let (mut placed, mut parts) = (Vec::new(alloc), Vec::new(alloc));
     for word in regions {

@@ -9,10 +9,10 @@ use anyhow::{Context, Result, bail};
 use std::alloc::{AllocError, Global};
 use vx_layout::{Bounds, Layout, LayoutError, Numbers, Rect, RectList, TileError, tile_bounds};
 
-/// - `bounds SIZES/TOTAL` tells the bounds of tile columns or tile rows of these explicit sizes, and `has SIZES/TOTAL NUMBER ..` which
+/// - `bounds SIZES/TOTAL` prints the bounds of tile columns or tile rows of these explicit sizes, and `has SIZES/TOTAL NUMBER ..` which
 ///   numbers are among them.
-/// - `precedes RECT RECT` tells whether no CTU of the first rectangle has its left or upper neighbour in the second.
-/// - `layout COLUMNS ROWS SLICES SUBPICTURES` tells the fault of numbers, or of each subpicture its slices, each with its entry points
+/// - `precedes RECT RECT` prints whether no CTU of the first rectangle has its left or upper neighbour in the second.
+/// - `layout COLUMNS ROWS SLICES SUBPICTURES` prints the fault of numbers, or of each subpicture its slices, each with its entry points
 ///   without and with synchronization, and the subpicture as a picture of its own. COLUMNS and ROWS are SIZES/TOTAL, and SLICES and
 ///   SUBPICTURES are rectangles with `;` between them. `RECT*N*M` are M rectangles like this one in rows of N side by side.
 pub(crate) fn answer(text: &mut String, alloc: Global, verb: &str, words: &[&str]) -> Result<()> {
@@ -27,13 +27,13 @@ pub(crate) fn answer(text: &mut String, alloc: Global, verb: &str, words: &[&str
     }
 }
 
-/// What explicit sizes and a total, `SIZES/TOTAL`, come to.
+/// Returns what explicit sizes and a total, `SIZES/TOTAL`, give.
 fn tiles(alloc: Global, word: &str) -> Result<Result<Bounds, TileError>> {
     let (sizes, total) = word.split_once('/').context("no total")?;
     tiles_within(alloc, sizes, total.parse::<u32>()?)
 }
 
-/// What explicit sizes come to within a total.
+/// Returns what explicit sizes give within a total.
 fn tiles_within(alloc: Global, sizes: &str, total: u32) -> Result<Result<Bounds, TileError>> {
     let sizes = numbers_of(alloc, sizes)?;
     if sizes.is_empty() || total < 1 {
@@ -45,17 +45,17 @@ fn tiles_within(alloc: Global, sizes: &str, total: u32) -> Result<Result<Bounds,
     Ok(tile_bounds(alloc, &sizes, total))
 }
 
-/// The bounds of explicit sizes and a total, `SIZES/TOTAL`.
+/// Returns the bounds of explicit sizes and a total, `SIZES/TOTAL`.
 fn bounds_of(alloc: Global, word: &str) -> Result<Bounds> {
     Ok(tiles(alloc, word)??)
 }
 
-/// The bounds of explicit sizes within a total.
+/// Returns the bounds of explicit sizes within a total.
 pub(crate) fn bounds_within(alloc: Global, sizes: &str, total: u32) -> Result<Bounds> {
     Ok(tiles_within(alloc, sizes, total)??)
 }
 
-/// Tells the bounds of sizes, or why there are none.
+/// Appends the bounds of sizes, or why there are none.
 fn tell_tiles(text: &mut String, alloc: Global, sizes: &str) -> Result<()> {
     match tiles(alloc, sizes)? {
         Ok(bounds) => Ok(push_bounds(text, &bounds)?),
@@ -63,13 +63,13 @@ fn tell_tiles(text: &mut String, alloc: Global, sizes: &str) -> Result<()> {
     }
 }
 
-/// Tells of numbers whether they are bounds of sizes.
+/// Appends for numbers whether they are bounds of sizes.
 fn tell_has(text: &mut String, alloc: Global, sizes: &str, numbers: &[&str]) -> Result<()> {
     let bounds = bounds_of(alloc, sizes)?;
     push_has(text, &bounds, numbers)
 }
 
-/// Appends of numbers whether they are bounds.
+/// Appends for numbers whether they are bounds.
 fn push_has(text: &mut String, bounds: &Bounds, numbers: &[&str]) -> Result<()> {
     for number in numbers {
         push_gap(text)?;
@@ -78,13 +78,13 @@ fn push_has(text: &mut String, bounds: &Bounds, numbers: &[&str]) -> Result<()> 
     Ok(())
 }
 
-/// Tells whether a rectangle precedes another.
+/// Appends whether a rectangle precedes another.
 fn tell_precedes(text: &mut String, alloc: Global, one: &str, other: &str) -> Result<()> {
     let (one, other) = (rect_of(alloc, one)?, rect_of(alloc, other)?);
     Ok(write!(text, "{}", one.precedes(&other))?)
 }
 
-/// The rectangle of its four numbers.
+/// Returns the rectangle of its four numbers.
 pub(crate) fn rect_of(alloc: Global, word: &str) -> Result<Rect> {
     match numbers_of::<u32>(alloc, word)?.as_slice() {
         [x, y, w, h] => Ok(Rect {
@@ -113,7 +113,7 @@ fn push_rects_of_word(rects: &mut RectList, alloc: Global, word: &str) -> Result
     Ok(repeat(rects, rect, across.parse::<u32>()?, count.parse::<u32>()?)?)
 }
 
-/// Appends rectangles like this one, from it on, so many side by side.
+/// Appends rectangles like this one, from it on, this many side by side.
 fn repeat(rects: &mut RectList, rect: Rect, across: u32, count: u32) -> Result<(), AllocError> {
     let across = across.max(1);
     for i in 0..count {
@@ -126,7 +126,7 @@ fn repeat(rects: &mut RectList, rect: Rect, across: u32, count: u32) -> Result<(
     Ok(())
 }
 
-/// Whether numbers are within the limits of a picture.
+/// Returns whether numbers are within the limits of a picture.
 fn is_in_limits(n: &Numbers) -> bool
     ensures { OnTrue result (IsInLimits n.now) }
 {
@@ -139,14 +139,14 @@ fn is_in_limits(n: &Numbers) -> bool
     is_some_and_few(&n.slices) && is_some_and_few(&n.subpics)
 }
 
-/// Whether there are 1 to 1000.
+/// Returns whether there are 1 to 1000.
 fn is_some_and_few(rects: &RectList) -> bool
     ensures { OnTrue result ((1 ≤ length rects.now) × (length rects.now ≤ 1000)) }
 {
     1 <= rects.len() && rects.len() <= 1000
 }
 
-/// Tells of the picture of these tile columns and tile rows, slices and subpictures.
+/// Appends the picture of these tile columns and tile rows, slices and subpictures.
 fn tell_picture(
     text: &mut String,
     alloc: Global,
@@ -160,7 +160,7 @@ fn tell_picture(
     answer_layout(text, alloc, picture)
 }
 
-/// A picture of these tile columns and tile rows without slices.
+/// Returns a picture of these tile columns and tile rows without slices.
 pub(crate) fn empty_picture(alloc: Global, columns: Bounds, rows: Bounds) -> Numbers {
     Numbers {
         columns,
@@ -176,7 +176,7 @@ fn push_both(picture: &mut Numbers, alloc: Global, slices: &str, subpics: &str) 
     push_rects_of(&mut picture.subpics, alloc, subpics)
 }
 
-/// Tells of the numbers of a picture.
+/// Appends the numbers of a picture.
 fn answer_layout(text: &mut String, alloc: Global, numbers: Numbers) -> Result<()> {
     if !is_in_limits(&numbers) {
         bail!("outside the limits of a picture");
@@ -185,7 +185,7 @@ fn answer_layout(text: &mut String, alloc: Global, numbers: Numbers) -> Result<(
     tell_layout(text, alloc, &Layout::new(alloc, numbers), count)
 }
 
-/// Tells of a layout, or why there is none.
+/// Appends a layout, or why there is none.
 fn tell_layout(
     text: &mut String,
     alloc: Global,

@@ -6,9 +6,9 @@ use std::alloc::{AllocError, Global};
 use vx_bits::{ByteLists, Bytes, Fields, Item, Kept, is_rbsp, short_rbsp};
 
 /// - `fields CALL ..` makes calls of a list of fields: `FIELD=VALUE` pushes an item, and `numbered:N` one for each field below N, with
-///   its number; `first:FIELD`, `item:I`, and `kept` for a list of all of them as kept ones, tell something.
-/// - `bytes BYTES BYTE` appends these bytes and then the byte, and tells of a list of that one byte string.
-/// - `short BYTES` tells the copy that is kept of a short RBSP, or `none` of a longer one, and whether it is known by these bytes.
+///   its number; `first:FIELD`, `item:I`, and `kept` for a list of all of them as kept ones, print results.
+/// - `bytes BYTES BYTE` appends these bytes and then the byte, and prints a list of that one byte string.
+/// - `short BYTES` prints the copy that is kept of a short RBSP, or `none` of a longer one, and whether it is known by these bytes.
 pub(crate) fn answer(text: &mut String, alloc: Global, verb: &str, words: &[&str]) -> Result<()> {
     match (verb, words) {
         ("fields", calls) => field_calls(text, alloc, calls),
@@ -18,7 +18,7 @@ pub(crate) fn answer(text: &mut String, alloc: Global, verb: &str, words: &[&str
     }
 }
 
-/// Tells what calls of a list of fields answer.
+/// Appends what calls of a list of fields return.
 fn field_calls(text: &mut String, alloc: Global, calls: &[&str]) -> Result<()> {
     let mut fields = Fields::new(alloc);
     for call in calls {
@@ -27,7 +27,7 @@ fn field_calls(text: &mut String, alloc: Global, calls: &[&str]) -> Result<()> {
     Ok(())
 }
 
-/// Makes one call of a list of fields, and tells what it answers.
+/// Makes one call of a list of fields, and prints what it returns.
 fn field_call(text: &mut String, alloc: Global, fields: &mut Fields, call: &str) -> Result<()> {
     match call.split_once(':') {
         Some(("numbered", count)) => Ok(push_numbered(fields, count.parse::<u16>()?)?),
@@ -48,7 +48,7 @@ fn push_numbered(fields: &mut Fields, count: u16) -> Result<(), AllocError> {
     Ok(())
 }
 
-/// Tells of the first item of a field, or of the item of an index.
+/// Appends the first item of a field, or the item of an index.
 fn tell_of(text: &mut String, fields: &Fields, told: &str, number: u16) -> Result<()> {
     push_gap(text)?;
     match told {
@@ -58,7 +58,7 @@ fn tell_of(text: &mut String, fields: &Fields, told: &str, number: u16) -> Resul
     }
 }
 
-/// Tells of the item of an index.
+/// Appends the item of an index.
 fn tell_item(text: &mut String, fields: &Fields, index: usize) -> Result<()> {
     if index >= fields.len() {
         bail!("no such item");
@@ -67,7 +67,7 @@ fn tell_item(text: &mut String, fields: &Fields, index: usize) -> Result<()> {
     Ok(write!(text, "{field}={value}")?)
 }
 
-/// Tells how many kept fields there are where all are kept, and whether they are the same.
+/// Appends how many kept fields there are if all are kept, and whether they are the same.
 fn tell_kept(text: &mut String, alloc: Global, fields: &Fields) -> Result<(), AllocError> {
     let mut kept = Kept::new(alloc);
     for item in fields.iter() {
@@ -78,7 +78,7 @@ fn tell_kept(text: &mut String, alloc: Global, fields: &Fields) -> Result<(), Al
     write!(text, "{} of {} kept, {same}", kept.len(), fields.len())
 }
 
-/// Tells of a list of one byte string, these bytes and this byte.
+/// Appends a list of one byte string, these bytes and this byte.
 fn list_bytes(text: &mut String, alloc: Global, front: &str, byte: &str) -> Result<()> {
     let mut bytes = Bytes::new(alloc);
     bytes.extend_from_slice(&bytes_of(alloc, front)?)?;
@@ -88,7 +88,7 @@ fn list_bytes(text: &mut String, alloc: Global, front: &str, byte: &str) -> Resu
     Ok(tell_lists(text, &lists)?)
 }
 
-/// Tells of byte strings, and how many they are.
+/// Appends byte strings, and how many they are.
 fn tell_lists(text: &mut String, lists: &ByteLists) -> Result<(), AllocError> {
     for i in 0..lists.len() {
         push_sum(text, lists.item(i).as_slice())?;
@@ -96,14 +96,14 @@ fn tell_lists(text: &mut String, lists: &ByteLists) -> Result<(), AllocError> {
     write!(text, " of {}", lists.len())
 }
 
-/// Tells of the copy of an RBSP.
+/// Appends the copy of an RBSP.
 fn tell_short(text: &mut String, alloc: Global, rbsp: &str) -> Result<()> {
     let rbsp = bytes_of(alloc, rbsp)?;
     let copy = short_rbsp(alloc, &rbsp)?;
     Ok(tell_copy(text, copy.as_ref(), &rbsp)?)
 }
 
-/// Tells a copy, where there is one, and whether it is known by these bytes.
+/// Appends a copy, if there is one, and whether it is known by these bytes.
 fn tell_copy(text: &mut String, copy: Option<&Bytes>, rbsp: &[u8]) -> Result<(), AllocError> {
     match copy {
         Some(bytes) => push_bytes(text, bytes.as_slice())?,

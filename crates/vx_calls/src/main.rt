@@ -42,7 +42,7 @@ fn main(rt: HostRuntime) -> ExitCode {
     }
 }
 
-/// Answers the lines of the input.
+/// Prints the results of the lines of the input.
 fn answer_lines(rt: &(impl Input + Print + AllocGlobal)) -> Result<()> {
     let alloc = rt.alloc();
     let mut answers = BufWriter::new(alloc, io::writer(rt))?;
@@ -59,13 +59,13 @@ fn answer_lines(rt: &(impl Input + Print + AllocGlobal)) -> Result<()> {
     Ok(())
 }
 
-/// Answers a line, where it is one of calls.
+/// Appends the result of a line, if it is one of calls.
 fn answer_line(text: &mut String, alloc: Global, line: &str) -> Result<bool> {
     let words: Vec<&str> = line.split_ascii_whitespace().collect(alloc)?;
     answer_words(text, alloc, &words)
 }
 
-/// Answers the words of a line, where they are those of calls.
+/// Appends the result of the words of a line, if they are those of calls.
 fn answer_words(text: &mut String, alloc: Global, words: &[&str]) -> Result<bool> {
     match words {
         [] | ["#", ..] => return Ok(false),
@@ -75,14 +75,14 @@ fn answer_words(text: &mut String, alloc: Global, words: &[&str]) -> Result<bool
     Ok(true)
 }
 
-/// Tells the length and the checksum of an answer.
+/// Appends the length and the checksum of a result.
 fn tell_sum(text: &mut String, alloc: Global, verb: &str, words: &[&str]) -> Result<()> {
     let mut whole = String::new(alloc);
     answer(&mut whole, alloc, verb, words)?;
     Ok(push_sum(text, whole.as_bytes())?)
 }
 
-/// Answers a line that begins with this word.
+/// Appends the result of a line that begins with this word.
 fn answer(text: &mut String, alloc: Global, verb: &str, words: &[&str]) -> Result<()> {
     match verb {
         "bits" | "code" | "codes" => bits::answer(text, alloc, verb, words),
@@ -94,7 +94,7 @@ fn answer(text: &mut String, alloc: Global, verb: &str, words: &[&str]) -> Resul
     }
 }
 
-/// Answers a line of units or of structures.
+/// Appends the result of a line of units or of structures.
 fn answer_of_units(text: &mut String, alloc: Global, verb: &str, words: &[&str]) -> Result<()> {
     match verb {
         "split" | "waits" => splitter::answer(text, alloc, verb, words),

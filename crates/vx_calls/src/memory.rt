@@ -9,10 +9,10 @@ use vx_io::{ClosedSource, GrowSink, MemorySink, MemorySource, Sink, Source, read
 const MOST_ROOM: usize = 64;
 
 /// - `source PIECES FAILING BYTES K:ROOM ..` makes reads of two sources, each into so much room: 0 is closed, and 1 gives these bytes in
-///   pieces of these sizes in turn, and its calls of these numbers fail. It tells the bytes of each read.
+///   pieces of these sizes in turn, and its calls of these numbers fail. It prints the bytes of each read.
 /// - `sink ROOM PIECES FAILING BYTES ..` writes to a sink with this room, that takes pieces of these sizes in turn, and whose calls of
-///   these numbers fail. It tells how many bytes each call takes, for `all:BYTES` whether all are written, and the bytes in the end.
-/// - `grow BYTES ..` writes to a sink that grows, and tells the same of it.
+///   these numbers fail. It prints how many bytes each call takes, for `all:BYTES` whether all are written, and the bytes in the end.
+/// - `grow BYTES ..` writes to a sink that grows, and prints the same of it.
 pub(crate) fn answer(text: &mut String, alloc: Global, verb: &str, words: &[&str]) -> Result<()> {
     match (verb, words) {
         ("source", [pieces, failing, bytes, reads @ ..]) => {
@@ -36,7 +36,7 @@ pub(crate) fn answer(text: &mut String, alloc: Global, verb: &str, words: &[&str
     }
 }
 
-/// A source that gives bytes in pieces of these sizes in turn, and whose calls of these numbers fail.
+/// Returns a source that gives bytes in pieces of these sizes in turn, and whose calls of these numbers fail.
 pub(crate) fn source_of(
     alloc: Global,
     pieces: &str,
@@ -47,7 +47,7 @@ pub(crate) fn source_of(
     Ok(MemorySource::new(bytes_of(alloc, bytes)?, pieces, failing))
 }
 
-/// A sink with this room that takes pieces of these sizes in turn, and whose calls of these numbers fail.
+/// Returns a sink with this room that takes pieces of these sizes in turn, and whose calls of these numbers fail.
 pub(crate) fn sink_of(
     alloc: Global,
     room: &str,
@@ -58,7 +58,7 @@ pub(crate) fn sink_of(
     Ok(MemorySink::new(alloc, room.parse::<usize>()?, pieces, failing)?)
 }
 
-/// Tells what reads of a closed source and of this one give.
+/// Appends what reads of a closed source and of this one give.
 fn tell_source(
     text: &mut String,
     alloc: Global,
@@ -71,7 +71,7 @@ fn tell_source(
     tell_reads(text, &mut sources, reads)
 }
 
-/// Tells what these reads of some sources give.
+/// Appends what these reads of some sources give.
 fn tell_reads(text: &mut String, sources: &mut Vec<Box<dyn Source>>, reads: &[&str]) -> Result<()> {
     for read in reads {
         let (at, room) = read.split_once(':').context("no room")?;
@@ -80,7 +80,7 @@ fn tell_reads(text: &mut String, sources: &mut Vec<Box<dyn Source>>, reads: &[&s
     Ok(())
 }
 
-/// Tells what a read of a source of a list gives.
+/// Appends what a read of a source of a list gives.
 fn tell_read(
     text: &mut String,
     sources: &mut Vec<Box<dyn Source>>,
@@ -99,7 +99,7 @@ fn tell_read(
     Ok(())
 }
 
-/// Tells what writes to a sink come to, and its bytes in the end.
+/// Appends what writes to a sink give, and its bytes in the end.
 fn tell_sink(
     text: &mut String,
     alloc: Global,
@@ -110,14 +110,14 @@ fn tell_sink(
     Ok(push_bytes(text, sink.bytes())?)
 }
 
-/// Tells what writes to a sink that grows come to, and its bytes in the end.
+/// Appends what writes to a sink that grows give, and its bytes in the end.
 fn tell_grown(text: &mut String, alloc: Global, writes: &[&str]) -> Result<()> {
     let mut sink = GrowSink::new(alloc);
     tell_writes(text, alloc, &mut sink, writes)?;
     Ok(push_bytes(text, sink.bytes())?)
 }
 
-/// Tells what writes come to, with a blank behind each.
+/// Appends what writes give, with a blank after each.
 fn tell_writes<K: Sink>(
     text: &mut String,
     alloc: Global,
@@ -133,7 +133,7 @@ fn tell_writes<K: Sink>(
     Ok(())
 }
 
-/// How many bytes a write takes, where it doesn't fail.
+/// Returns how many bytes a write takes, if it doesn't fail.
 fn taken<K: Sink>(alloc: Global, sink: &mut K, write: &str) -> Result<Option<usize>> {
     match write.strip_prefix("all:") {
         Some(bytes) => Ok(write_whole(sink, &bytes_of(alloc, bytes)?)),
@@ -141,7 +141,7 @@ fn taken<K: Sink>(alloc: Global, sink: &mut K, write: &str) -> Result<Option<usi
     }
 }
 
-/// The number of bytes, where all of them are written.
+/// Returns the number of bytes, if all of them are written.
 fn write_whole<K: Sink>(sink: &mut K, bytes: &[u8]) -> Option<usize> {
     write_all(sink, bytes).ok()?;
     Some(bytes.len())

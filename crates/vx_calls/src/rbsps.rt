@@ -7,10 +7,10 @@ use vx_aps::{read_aps, write_aps};
 use vx_bits::{Bytes, ReadError};
 use vx_sei::{Message, MessageList, read_sei, write_sei};
 
-/// - `messages RBSP` tells the messages that are carried of an SEI RBSP, `TYPE=PAYLOAD` each or `-` for none, or `none` where it is no
-///   SEI RBSP.
-/// - `spell TYPE=PAYLOAD ..` tells the length of each message as it is spelled, and the RBSP of all of them.
-/// - `set RBSP` tells the type and the id of an adaptation parameter set, and the RBSP that is written of it, or `dropped`, or why it is
+/// - `messages RBSP` prints the messages that are carried of an SEI RBSP, `TYPE=PAYLOAD` each or `-` for none, or `none` if it is no SEI
+///   RBSP.
+/// - `spell TYPE=PAYLOAD ..` prints the length of each message as it is spelled, and the RBSP of all of them.
+/// - `set RBSP` prints the type and the id of an adaptation parameter set, and the RBSP that is written of it, or `dropped`, or why it is
 ///   refused.
 pub(crate) fn answer(text: &mut String, alloc: Global, verb: &str, words: &[&str]) -> Result<()> {
     match (verb, words) {
@@ -21,7 +21,7 @@ pub(crate) fn answer(text: &mut String, alloc: Global, verb: &str, words: &[&str
     }
 }
 
-/// The messages of words `TYPE=PAYLOAD`.
+/// Returns the messages of words `TYPE=PAYLOAD`.
 pub(crate) fn messages_of(alloc: Global, words: &[&str]) -> Result<MessageList> {
     let mut messages = MessageList::new(alloc);
     for word in words {
@@ -34,7 +34,7 @@ pub(crate) fn messages_of(alloc: Global, words: &[&str]) -> Result<MessageList> 
     Ok(messages)
 }
 
-/// Tells of the messages of an RBSP.
+/// Appends the messages of an RBSP.
 fn tell_carried(text: &mut String, alloc: Global, rbsp: &[u8]) -> Result<(), AllocError> {
     match read_sei(alloc, rbsp)? {
         Some(messages) => tell_messages(text, &messages),
@@ -42,7 +42,7 @@ fn tell_carried(text: &mut String, alloc: Global, rbsp: &[u8]) -> Result<(), All
     }
 }
 
-/// Tells of messages, or that there are none.
+/// Appends messages, or that there are none.
 fn tell_messages(text: &mut String, messages: &MessageList) -> Result<(), AllocError> {
     if messages.len() == 0 {
         return text.push_str("-");
@@ -55,7 +55,7 @@ fn tell_messages(text: &mut String, messages: &MessageList) -> Result<(), AllocE
     Ok(())
 }
 
-/// Tells of messages that are written.
+/// Appends messages that are written.
 fn tell_spelled(text: &mut String, alloc: Global, messages: &MessageList) -> Result<()> {
     if messages.len() == 0 {
         bail!("no message");
@@ -66,7 +66,7 @@ fn tell_spelled(text: &mut String, alloc: Global, messages: &MessageList) -> Res
     Ok(push_bytes(text, &write_sei(alloc, messages)?)?)
 }
 
-/// Tells of an RBSP of an adaptation parameter set.
+/// Appends an RBSP of an adaptation parameter set.
 fn tell_set(text: &mut String, alloc: Global, rbsp: &[u8]) -> Result<()> {
     match tell_set_read(text, alloc, rbsp) {
         Ok(()) => Ok(()),
@@ -75,7 +75,7 @@ fn tell_set(text: &mut String, alloc: Global, rbsp: &[u8]) -> Result<()> {
     }
 }
 
-/// Tells of a set that is read, and of what is written of it.
+/// Appends a set that is read, and what is written of it.
 fn tell_set_read(text: &mut String, alloc: Global, rbsp: &[u8]) -> Result<(), ReadError> {
     let Some(aps) = read_aps(alloc, rbsp)? else {
         text.push_str("dropped")?;

@@ -9,8 +9,8 @@ use std::alloc::{AllocError, Global};
 use vx_annexb::{TakeFault, UnitReader};
 use vx_io::MemorySource;
 
-/// `take TIMES PIECES FAILING BYTES` takes units so many times from a source that gives pieces of these sizes in turn, and whose calls
-/// of these numbers fail. It tells what each call answers; a failed read is the last.
+/// `take TIMES PIECES FAILING BYTES` takes units this many times from a source that gives pieces of these sizes in turn, and whose calls
+/// of these numbers fail. It prints what each call returns; a failed read is the last.
 pub(crate) fn answer(text: &mut String, alloc: Global, words: &[&str]) -> Result<()> {
     let [times, pieces, failing, bytes] = words else {
         bail!("no such call of a reader");
@@ -20,7 +20,7 @@ pub(crate) fn answer(text: &mut String, alloc: Global, words: &[&str]) -> Result
     Ok(tell_taken(text, alloc, &mut source, times)?)
 }
 
-/// Tells what a new reader of a source answers, so many times at most.
+/// Appends what a new reader of a source returns, at most this many times.
 fn tell_taken(
     text: &mut String,
     alloc: Global,
@@ -31,7 +31,7 @@ fn tell_taken(
     take_units(text, &mut reader, source, times)
 }
 
-/// Tells what a reader of a source answers, so many times at most.
+/// Appends what a reader of a source returns, at most this many times.
 fn take_units(
     text: &mut String,
     reader: &mut UnitReader,
@@ -48,7 +48,7 @@ fn take_units(
     Ok(())
 }
 
-/// Tells what a reader of a source answers; and answers whether it may be asked again.
+/// Appends what a reader of a source returns; and returns whether it may be asked again.
 fn take_unit(
     text: &mut String,
     reader: &mut UnitReader,

@@ -10,8 +10,9 @@ use vx_pps::read_pps;
 use vx_sps::read_sps;
 use vx_write::{aps_unit, pps_unit, sei_unit, sps_unit};
 
-/// - `sps RBSP`, `pps TID RBSP` and `aps TID RBSP` read a set, and tell the unit that is written of it, for a picture of this TemporalId.
-/// - `sei TID TYPE=PAYLOAD ..` tells the unit of messages, or `none`.
+/// - `sps RBSP`, `pps TID RBSP` and `aps TID RBSP` read a set, and print the unit that is written of it, for a picture of this
+///   TemporalId.
+/// - `sei TID TYPE=PAYLOAD ..` prints the unit of messages, or `none`.
 pub(crate) fn answer(text: &mut String, alloc: Global, verb: &str, words: &[&str]) -> Result<()> {
     let unit = match (verb, words) {
         ("sps", [rbsp]) => Some(written_sps(alloc, rbsp)?),
@@ -26,7 +27,7 @@ pub(crate) fn answer(text: &mut String, alloc: Global, verb: &str, words: &[&str
     }
 }
 
-/// The unit of an SPS.
+/// Returns the unit of an SPS.
 fn written_sps(alloc: Global, rbsp: &str) -> Result<Vec<u8>> {
     let rbsp = bytes_of(alloc, rbsp)?;
     if rbsp.len() > MOST_READ {
@@ -35,7 +36,7 @@ fn written_sps(alloc: Global, rbsp: &str) -> Result<Vec<u8>> {
     Ok(sps_unit(alloc, &read_sps(alloc, &rbsp)?)?)
 }
 
-/// The unit of a PPS.
+/// Returns the unit of a PPS.
 fn written_pps(alloc: Global, tid: u8, rbsp: &str) -> Result<Vec<u8>> {
     let rbsp = bytes_of(alloc, rbsp)?;
     if rbsp.len() > MOST_READ || tid > 6 {
@@ -44,7 +45,7 @@ fn written_pps(alloc: Global, tid: u8, rbsp: &str) -> Result<Vec<u8>> {
     Ok(pps_unit(alloc, &read_pps(alloc, &rbsp)?, tid)?)
 }
 
-/// The unit of an adaptation parameter set.
+/// Returns the unit of an adaptation parameter set.
 fn written_aps(alloc: Global, tid: u8, rbsp: &str) -> Result<Vec<u8>> {
     if tid > 6 {
         bail!("no TemporalId");
@@ -56,7 +57,7 @@ fn written_aps(alloc: Global, tid: u8, rbsp: &str) -> Result<Vec<u8>> {
     Ok(aps_unit(alloc, aps.kind, aps.id, aps.body.as_slice(), tid)?)
 }
 
-/// The unit of messages.
+/// Returns the unit of messages.
 fn written_sei(alloc: Global, tid: u8, messages: &[&str]) -> Result<Option<Vec<u8>>> {
     if tid > 6 {
         bail!("no TemporalId");

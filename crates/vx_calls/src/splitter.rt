@@ -8,9 +8,9 @@ use std::alloc::{AllocError, Global};
 use vx_annexb::Splitter;
 use vx_bits::Refusal;
 
-/// - `split SIZES BYTES` feeds bytes in pieces of these sizes in turn, and tells the units, each by its place, its length and its bytes,
+/// - `split SIZES BYTES` feeds bytes in pieces of these sizes in turn, and prints the units, each by its place, its length and its bytes,
 ///   and how the stream ends.
-/// - `waits SIZES BYTES` tells besides what is answered behind each piece: a dot where no further unit is seen.
+/// - `waits SIZES BYTES` also prints what is returned after each piece: a dot if no further unit is seen.
 pub(crate) fn answer(text: &mut String, alloc: Global, verb: &str, words: &[&str]) -> Result<()> {
     let [sizes, bytes] = words else {
         bail!("no such call of a splitter");
@@ -23,7 +23,7 @@ pub(crate) fn answer(text: &mut String, alloc: Global, verb: &str, words: &[&str
     Ok(tell_split(text, alloc, &sizes, &bytes, verb == "waits")?)
 }
 
-/// Tells of the bytes of a stream that come in pieces of these sizes in turn.
+/// Appends the bytes of a stream that come in pieces of these sizes in turn.
 fn tell_split(
     text: &mut String,
     alloc: Global,
@@ -37,7 +37,7 @@ fn tell_split(
     split(text, &mut splitter, sizes, bytes, waits)
 }
 
-/// Feeds bytes to a splitter that has none, in pieces of these sizes in turn, and tells of the units.
+/// Feeds bytes to a splitter that has none, in pieces of these sizes in turn, and appends the units.
 fn split(
     text: &mut String,
     splitter: &mut Splitter,
@@ -67,7 +67,7 @@ fn split(
     tell_stop(text, refusal, "end")
 }
 
-/// The size of a piece, which is at least 1.
+/// Returns the size of a piece, which is at least 1.
 fn piece_size(sizes: &[u32], turn: usize) -> usize
     requires { 0 < length sizes.now }
     ensures { 0 < result }
@@ -75,7 +75,7 @@ fn piece_size(sizes: &[u32], turn: usize) -> usize
     (sizes[turn % sizes.len()] as usize).max(1)
 }
 
-/// Takes and tells the units whose end is seen, and gives the refusal behind them.
+/// Takes and appends the complete units, and returns the refusal after them.
 fn take_units(text: &mut String, splitter: &mut Splitter) -> Result<Option<Refusal>, AllocError>
     ensures { Lends splitter.old splitter.new }
 {
@@ -88,7 +88,7 @@ fn take_units(text: &mut String, splitter: &mut Splitter) -> Result<Option<Refus
     }
 }
 
-/// Tells why no unit is answered: the refusal, or else this word.
+/// Appends why no unit is returned: the refusal, or else this word.
 fn tell_stop(text: &mut String, refusal: Option<Refusal>, none: &str) -> Result<(), AllocError> {
     push_gap(text)?;
     match refusal {

@@ -26,12 +26,12 @@ pub(crate) enum Structure {
     Composite,
 }
 
-/// - `value NAME BYTES` tells the items of the value of a table, or why there is none.
-/// - `read NAME BYTES FIELD ..` tells besides the items before a refusal, and behind all the place, and the latest numbers of fields.
-/// - `pass NAME BYTES FIELD ..` tells the same but for the items.
-/// - `write NAME ITEM ..` tells the bytes that items spell, `keep NAME ITEM ..` the items of kept fields, and `rewrite NAME FIELDS ITEM ..
-///   / ITEM ..` the items that are put together of those of some fields and those of the others. `left` says that items are left.
-/// - `depends NAME GIVEN SHOWN` tells whether fields depend only on shown ones, where given numbers are known, and `stars NAME GIVEN
+/// - `value NAME BYTES` prints the items of the value of a table, or why there is none.
+/// - `read NAME BYTES FIELD ..` also prints the items before a refusal, and after all the place, and the latest numbers of fields.
+/// - `pass NAME BYTES FIELD ..` prints the same except the items.
+/// - `write NAME ITEM ..` prints the bytes that items spell, `keep NAME ITEM ..` the items of kept fields, and `rewrite NAME FIELDS ITEM
+///   .. / ITEM ..` the items that are put together of those of some fields and those of the others. `left` says that items are left.
+/// - `depends NAME GIVEN SHOWN` prints whether fields depend only on shown ones, where given numbers are known, and `stars NAME GIVEN
 ///   SHOWN` whether the shown ones are those without a star.
 pub(crate) fn answer(text: &mut String, alloc: Global, verb: &str, words: &[&str]) -> Result<()> {
     match (verb, words) {
@@ -50,7 +50,7 @@ pub(crate) fn answer(text: &mut String, alloc: Global, verb: &str, words: &[&str
     }
 }
 
-/// Answers a line of a structure.
+/// Appends the result of a line of a structure.
 fn tell_coded(
     text: &mut String,
     alloc: Global,
@@ -69,7 +69,7 @@ fn tell_coded(
     }
 }
 
-/// Tells whether a claim holds.
+/// Appends whether a claim holds.
 fn tell_claim(
     text: &mut String,
     alloc: Global,
@@ -83,7 +83,7 @@ fn tell_claim(
     Ok(write!(text, "{holds}")?)
 }
 
-/// Whether a claim holds: of what fields depend on, or else of stars.
+/// Returns whether a claim holds: of what fields depend on, or else of stars.
 fn holds(depends: bool, structure: &Structure, given: &[u16], shown: &[u16]) -> Result<bool> {
     match structure {
         Structure::Table(rows) if depends => Ok(depends_only_on(rows, given, shown)),
@@ -94,7 +94,7 @@ fn holds(depends: bool, structure: &Structure, given: &[u16], shown: &[u16]) -> 
     }
 }
 
-/// The bytes of a word, where they aren't too many.
+/// Returns the bytes of a word, if they aren't too many.
 fn rbsp_of(alloc: Global, word: &str) -> Result<Rbsp> {
     let bytes = bytes_of(alloc, word)?;
     if bytes.len() > MOST_READ {
@@ -124,7 +124,7 @@ fn read(
     }
 }
 
-/// Passes over a structure.
+/// Skips a structure.
 fn pass(structure: &Structure, scope: &mut Scope, bits: &mut BitReader<'_>) -> Result<(), Refusal> {
     match structure {
         Structure::Table(rows) => pass_table(rows, scope, bits),
@@ -175,7 +175,7 @@ fn rewrite(
     }
 }
 
-/// Tells of the value of a table.
+/// Appends the value of a table.
 fn tell_value(text: &mut String, alloc: Global, structure: &Structure, bytes: &str) -> Result<()> {
     let Structure::Table(rows) = structure else {
         bail!("no table");
@@ -188,7 +188,7 @@ fn tell_value(text: &mut String, alloc: Global, structure: &Structure, bytes: &s
     }
 }
 
-/// Tells of a structure that is read.
+/// Appends a structure that is read.
 fn tell_read(
     text: &mut String,
     alloc: Global,
@@ -206,7 +206,7 @@ fn tell_read(
     push_latest(text, &scope, fields)
 }
 
-/// Appends how reading ended, where memory sufficed.
+/// Appends how reading ended, if memory sufficed.
 fn push_reading(
     text: &mut String,
     read: Result<(), ReadError>,
@@ -219,7 +219,7 @@ fn push_reading(
     }
 }
 
-/// Tells of a structure that is passed over.
+/// Appends a structure that is skipped.
 fn tell_passed(
     text: &mut String,
     alloc: Global,
@@ -258,7 +258,7 @@ fn push_latest(text: &mut String, scope: &Scope, fields: &[&str]) -> Result<()> 
     Ok(())
 }
 
-/// Tells of a structure that is written.
+/// Appends a structure that is written.
 fn tell_written(
     text: &mut String,
     alloc: Global,
@@ -274,7 +274,7 @@ fn tell_written(
     Ok(())
 }
 
-/// Tells of a structure whose items are sifted.
+/// Appends a structure whose items are sifted.
 fn tell_kept(
     text: &mut String,
     alloc: Global,
@@ -290,7 +290,7 @@ fn tell_kept(
     Ok(())
 }
 
-/// Tells of a structure that is rewritten, of these words.
+/// Appends a structure that is rewritten, from these words.
 fn rewrite_words(
     text: &mut String,
     alloc: Global,
@@ -305,7 +305,7 @@ fn rewrite_words(
     tell_rewritten(text, alloc, structure, &names, &shown, &others)
 }
 
-/// Tells of a structure that is rewritten: of the items of these fields, and of the others.
+/// Appends a structure that is rewritten: from the items of these fields, and from the others.
 fn tell_rewritten(
     text: &mut String,
     alloc: Global,
@@ -327,7 +327,7 @@ fn tell_rewritten(
     Ok(())
 }
 
-/// Whether items were spelled; tells where not, and where some are left.
+/// Returns whether items were written; appends why not, and whether some are left.
 fn spelled(text: &mut String, spelled: Result<(), SpellError>, all: bool) -> Result<bool> {
     match spelled {
         Ok(()) if all => Ok(true),

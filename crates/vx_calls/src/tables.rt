@@ -80,7 +80,7 @@ const PLACES: [Row; 3] = table! {
 
 const ENTRIES: [Row; 1] = table! { entries*: ue; };
 
-/// It comes in turns, and once more behind them.
+/// It comes in turns, and once more after them.
 const ENTRY: [Row; 1] = table! { entry: u(TURN + 1); };
 
 const AGAIN: [Row; 2] = table! { again; let TURN = 2; };
@@ -121,7 +121,7 @@ const PLAIN: [Row; 40] = table! {
     plain_flag; plain_flag; plain_flag; plain_flag; plain_flag; plain_flag; plain_flag; plain_flag;
 };
 
-/// The structure of a name.
+/// Returns the structure of a name.
 pub(crate) fn coded(alloc: Global, name: &str) -> Result<Structure> {
     match name {
         "turns" => {
@@ -133,7 +133,7 @@ pub(crate) fn coded(alloc: Global, name: &str) -> Result<Structure> {
     }
 }
 
-/// The table of a name.
+/// Returns the table of a name.
 fn table_of(name: &str) -> Result<&'static [Row]> {
     match name {
         "small" => Ok(&SMALL),

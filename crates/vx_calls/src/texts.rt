@@ -5,7 +5,7 @@ use std::alloc::AllocError;
 use vx_bits::{ReadError, Refusal};
 use vx_layout::{LayoutError, ORDER_FAULT, TileError};
 
-/// `text ERROR` tells what an error says, and for a reader's whether it is want of memory.
+/// `text ERROR` prints what an error says, and for a reader's whether it is lack of memory.
 pub(crate) fn answer(text: &mut String, words: &[&str]) -> Result<()> {
     let [word] = words else {
         bail!("no such error");

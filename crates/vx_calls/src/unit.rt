@@ -9,12 +9,12 @@ use vx_annexb::{
 };
 use vx_io::MemorySink;
 
-/// - `header BYTES` tells the header of a unit, or `none`.
-/// - `emulation BYTES` tells the place of the byte that breaks a rule of emulation prevention, or `none`.
-/// - `escape BYTES` tells the unit of bytes that don't end in 00.
-/// - `unescape BYTES` tells the bytes of a unit that keeps the rules, and `places BYTES` the place behind each of them.
+/// - `header BYTES` prints the header of a unit, or `none`.
+/// - `emulation BYTES` prints the place of the byte that breaks a rule of emulation prevention, or `none`.
+/// - `escape BYTES` prints the unit of bytes that don't end in 00.
+/// - `unescape BYTES` prints the bytes of a unit that keeps the rules, and `places BYTES` the place after each of them.
 /// - `units ROOM PIECES FAILING FRONT/REST ..` writes units to a sink with this room, that takes pieces of these sizes in turn, and whose
-///   calls of these numbers fail. It tells behind each what the sink has then.
+///   calls of these numbers fail. It prints after each what the sink has then.
 pub(crate) fn answer(text: &mut String, alloc: Global, verb: &str, words: &[&str]) -> Result<()> {
     if let ("units", [room, pieces, failing, units @ ..]) = (verb, words) {
         let mut sink = sink_of(alloc, room, pieces, failing)?;
@@ -26,7 +26,7 @@ pub(crate) fn answer(text: &mut String, alloc: Global, verb: &str, words: &[&str
     tell_unit(text, alloc, verb, &bytes_of(alloc, bytes)?)
 }
 
-/// Tells what a call of these bytes answers.
+/// Appends what a call of these bytes returns.
 fn tell_unit(text: &mut String, alloc: Global, verb: &str, bytes: &[u8]) -> Result<()> {
     match verb {
         "header" => Ok(tell_header(text, read_header(bytes))?),
@@ -89,7 +89,7 @@ fn tell_places(text: &mut String, alloc: Global, unit: &[u8]) -> Result<()> {
     Ok(())
 }
 
-/// Tells of units that are written to a sink one after another.
+/// Appends units that are written to a sink one after another.
 fn write_units(
     text: &mut String,
     alloc: Global,
@@ -106,7 +106,7 @@ fn write_units(
     Ok(())
 }
 
-/// Whether the unit of these bytes in front and the rest is written.
+/// Returns whether the unit of these two parts is written.
 fn writes_unit(alloc: Global, sink: &mut MemorySink, front: &str, rest: &str) -> Result<bool> {
     let (front, rest) = (bytes_of(alloc, front)?, bytes_of(alloc, rest)?);
     Ok(write_unit(sink, &front, &rest).is_ok())

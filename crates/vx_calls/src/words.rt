@@ -6,20 +6,20 @@ use std::num::ParseIntError;
 use std::str::FromStr;
 use vx_bits::{Fields, Item, Refusal};
 
-/// The most bytes that are told by their digits.
+/// The most bytes that are printed by their digits.
 const MOST_TOLD: usize = 64;
 
-/// What stands before the i-th of several things.
+/// Returns what comes before the i-th of several things.
 pub(crate) fn mark(i: usize, mark: &'static str) -> &'static str {
     if i == 0 { "" } else { mark }
 }
 
-/// Appends a blank behind what stands there.
+/// Appends a blank after what is there.
 pub(crate) fn push_gap(text: &mut String) -> Result<(), AllocError> {
     text.push_str(if text.is_empty() { "" } else { " " })
 }
 
-/// The numbers of a list with commas, or none for `-`.
+/// Returns the numbers of a list with commas, or none for `-`.
 pub(crate) fn numbers_of<N: Copy + FromStr<Err = ParseIntError>>(
     alloc: Global,
     word: &str,
@@ -34,7 +34,7 @@ pub(crate) fn numbers_of<N: Copy + FromStr<Err = ParseIntError>>(
     Ok(numbers)
 }
 
-/// The bytes that a word spells.
+/// Returns the bytes that a word spells.
 pub(crate) fn bytes_of(alloc: Global, word: &str) -> Result<Vec<u8>> {
     let mut bytes = Vec::new(alloc);
     if word == "-" {
@@ -61,7 +61,7 @@ fn push_part(alloc: Global, bytes: &mut Vec<u8>, part: &str) -> Result<()> {
     Ok(())
 }
 
-/// The Adler-32 of bytes (RFC 1950).
+/// Returns the Adler-32 of bytes (RFC 1950).
 fn adler32(bytes: &[u8]) -> u32 {
     let (mut low, mut high) = (1u32, 0u32);
     for byte in bytes {
@@ -90,7 +90,7 @@ pub(crate) fn push_bytes(text: &mut String, bytes: &[u8]) -> Result<(), AllocErr
     Ok(())
 }
 
-/// The item of a word `FIELD=VALUE`.
+/// Returns the item of a word `FIELD=VALUE`.
 pub(crate) fn item_of(word: &str) -> Result<Item> {
     let (field, value) = word.split_once('=').context("no item")?;
     Ok(Item {
@@ -99,7 +99,7 @@ pub(crate) fn item_of(word: &str) -> Result<Item> {
     })
 }
 
-/// The items of words.
+/// Returns the items of words.
 pub(crate) fn items_of(alloc: Global, words: &[&str]) -> Result<Fields> {
     let mut items = Fields::new(alloc);
     for word in words {

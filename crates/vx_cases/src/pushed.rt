@@ -19,7 +19,7 @@ enum Order {
     Sources,
 }
 
-/// Where a mixer or a cutter stands.
+/// The state of a mixer or a cutter.
 enum Step {
     Picture,
     Waits,

@@ -55,7 +55,7 @@ dpb_of source =
     number source dpb.dpb_max_dec_pic_buffering_minus1 ∷ number source dpb.dpb_max_num_reorder_pics
     ∷ number source dpb.dpb_max_latency_increase_plus1 ∷ []
 
--- The id of the subpicture stands in the SPS, unless the source's ids stand in the PPS (our own choice).
+-- The id of the subpicture is in the SPS, unless the source's ids are in the PPS (our own choice).
 abbrev pub id_in_sps : Parts → ℕ → Option ℕ
 id_in_sps q target = cond (needs_ids q.sps) None (Some (id_in q target))
 

@@ -7,7 +7,7 @@ use crate::headers::{lowest_with_lmcs, lowest_with_scaling};
 use std::alloc::{AllocError, Global};
 use vx_pic::Picture;
 
-/// What the pictures of a round use of adaptation parameter sets.
+/// Facts about the adaptation parameter sets of a round's pictures.
 #[derive(Drop)]
 pub struct RoundBodies<'a> {
     /// The adaptive loop filters in force in slices.
@@ -18,7 +18,7 @@ pub struct RoundBodies<'a> {
     pub scaling: Option<u16>,
 }
 
-/// Collects what the pictures of a round use of adaptation parameter sets.
+/// Collects facts about the adaptation parameter sets of a round's pictures.
 ///
 /// *Errors:* [`AllocError`] if memory runs out.
 pub fn round_bodies<'a>(alloc: Global, round: &[Picture<'a>]) -> Result<RoundBodies<'a>, AllocError>

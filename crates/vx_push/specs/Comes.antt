@@ -14,7 +14,7 @@ use Rattle.vx_push.specs.declared.intake.State.TheVariants as states
 pub use Rattle.vx_push.specs.Handed.{Handed, nothing, with_more, with_end, zeros, IsOpenedBy, OfEachStream}
 pub use Rattle.vx_push.specs.inner.Comes.{Intaking, IsFedBy}
 
--- Where an intake stands that has found these pictures. However the stream goes on, they are its first ones. If it waits, they are all
+-- The state of an intake that has found these pictures. However the stream goes on, they are its first ones. If it waits, they are all
 -- that are complete in what was pushed. If it is at the end or refused, they are all, and after them the stream ends or is refused so.
 abbrev pub ComesTo : Readers → Handed → List Picture → State → Type 0
 ComesTo R h ps states.Waits =

@@ -14,7 +14,7 @@ use vx_io::GrowSink;
 use vx_pic::{Kind, Picture};
 use vx_run::{Place, Stop, Task, pictures_have_slices, some_picture};
 
-/// Where a cutter stands in its extraction.
+/// The state of a cutter.
 #[derive(Clone, Copy, Debug, PartialEq, Eq)]
 pub enum Cut {
     /// An extracted picture is to be taken.

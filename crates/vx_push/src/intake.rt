@@ -7,7 +7,7 @@ use vx_assemble::Feed;
 use vx_bits::Refusal;
 use vx_pic::{Lender, Picture};
 
-/// Where an intake stands in its stream.
+/// The state of an intake.
 #[derive(Clone, Copy, Debug, PartialEq, Eq)]
 pub enum State {
     /// It waits for bytes: those pushed so far show no further picture.

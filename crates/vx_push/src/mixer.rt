@@ -19,7 +19,7 @@ use vx_merge::{Corner, Merger, WriteError};
 use vx_pic::{Kind, Lender};
 use vx_run::{Place, Stop, all_go_on, merge_ends_once};
 
-/// Where a mixer stands in its merge.
+/// The state of a mixer.
 #[derive(Clone, Copy, Debug, PartialEq, Eq)]
 pub enum Mixed {
     /// A merged picture is to be taken.

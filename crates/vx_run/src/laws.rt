@@ -19,7 +19,7 @@ pub fn status_is_exact<A, K, E>()
     ensures { StatusIsExact A K E }
 {}
 
-/// If more files or regions are placed than there may be, then the status is 1, or 4.
+/// If more files or regions are placed than there may be, then the status is 1, or 4 for lack of memory.
 pub fn too_many_are_refused<A, K, E>()
     ensures { TooManyAreRefused A K E }
 {}

@@ -12,7 +12,7 @@ use vx_bits::BitReader;
 use vx_ph::{PictureHeader, read_ph};
 use vx_sh::{SliceNumbers, read_sh};
 
-/// Appends a picture header, how many entries its lists have, and the bit behind it.
+/// Appends a picture header, how many entries its lists have, and the bit after it.
 fn write_header(text: &mut String, header: &PictureHeader, end: u32) -> Result<(), LineFault> {
     text.push_str("header")?;
     write_items(text, &header.fields)?;
@@ -23,9 +23,7 @@ fn write_header(text: &mut String, header: &PictureHeader, end: u32) -> Result<(
 
 /// Appends what is read of a picture header, which needn't end a unit.
 ///
-/// # Errors
-///
-/// The first refusal; where the sets haven't come; want of memory.
+/// *Errors:* the first refusal; sets that haven't come; lack of memory.
 pub(crate) fn answer_header_alone(
     text: &mut String,
     alloc: Global,
@@ -71,9 +69,7 @@ fn slice_alone(
 
 /// Appends what is read of a slice header of a unit of a type, under the picture header that came last.
 ///
-/// # Errors
-///
-/// The first refusal; where the sets or a picture header haven't come; want of memory.
+/// *Errors:* the first refusal; sets or a picture header that haven't come; lack of memory.
 pub(crate) fn answer_slice_alone(
     text: &mut String,
     alloc: Global,

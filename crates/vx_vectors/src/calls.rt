@@ -25,11 +25,9 @@ use crate::lists::{
 };
 use std::alloc::Global;
 
-/// Appends the answer to the call of a name with these words.
+/// Appends the result for the call of a name with these words.
 ///
-/// # Errors
-///
-/// `Word` where there is no such call, before anything is appended; else as the call has it.
+/// *Errors:* `Word` if there is no such call, before anything is appended; else as the call has it.
 fn answer_call(
     text: &mut String,
     alloc: Global,
@@ -56,7 +54,7 @@ fn answer_call(
     }
 }
 
-/// Appends what is told of the call that a line asks about; false where its word is none of these.
+/// Appends the result of the call that a line asks for; returns `false` if its word names no call.
 pub(crate) fn told_of_call(
     text: &mut String,
     alloc: Global,

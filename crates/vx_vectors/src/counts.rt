@@ -8,7 +8,7 @@ use std::alloc::{AllocError, Global};
 use vx_bits::Refusal;
 use vx_pic::{CountFields, PrevTid0, picture_order_count};
 
-/// A cycle of the most significant bits, and none for `-`.
+/// Returns a cycle of the most significant bits, and none for `-`.
 fn cycle(word: &str) -> Result<Option<u32>, LineFault> {
     if word == "-" {
         return Ok(None);
@@ -16,7 +16,7 @@ fn cycle(word: &str) -> Result<Option<u32>, LineFault> {
     Ok(Some(word.parse::<u32>()?))
 }
 
-/// The low bits of a picture, as how many there are and their number, and its cycle.
+/// Returns the low bits of a picture, as how many there are and their number, and its cycle.
 fn count_fields(alloc: Global, low: &str, msb: &str) -> Result<CountFields, LineFault>
     ensures { IfOk result (λ fields. fields.lsb_bits ≤ 16) }
 {
@@ -34,7 +34,7 @@ fn count_fields(alloc: Global, low: &str, msb: &str) -> Result<CountFields, Line
     })
 }
 
-/// The low bits and the count of the previous picture.
+/// Returns the low bits and the count of the previous picture.
 fn previous(lsb: &str, poc: &str) -> Result<PrevTid0, LineFault> {
     Ok(PrevTid0 {
         lsb: lsb.parse::<u32>()?,
@@ -50,7 +50,7 @@ fn write_count(text: &mut String, answer: Result<i32, Refusal>) -> Result<(), Al
     }
 }
 
-/// `count BITS,LSB CYCLE CLVSS LSB POC`: the count of a picture with these low bits behind a previous picture of these.
+/// `count BITS,LSB CYCLE CLVSS LSB POC`: the count of a picture with these low bits after a previous picture of these.
 pub(crate) fn answer_count(
     text: &mut String,
     alloc: Global,

@@ -9,7 +9,7 @@ use vx_layout::{Bounds, Numbers, RectList};
 use vx_pic::{AlfInForce, DecodingInput, Difference, Kind, Place, same_input};
 use vx_rpl::{RefList, RefLists};
 
-/// The place of a slice at this address, in a subpicture of nothing.
+/// Returns the place of a slice at this address, in a subpicture of nothing.
 fn place(alloc: Global, address: u32) -> Place {
     Place {
         width: 0,
@@ -26,7 +26,7 @@ fn place(alloc: Global, address: u32) -> Place {
     }
 }
 
-/// The filter that is off.
+/// Returns the filter that is off.
 fn no_filter<'a>(alloc: Global) -> AlfInForce<'a> {
     AlfInForce {
         enabled: false,
@@ -39,7 +39,7 @@ fn no_filter<'a>(alloc: Global) -> AlfInForce<'a> {
     }
 }
 
-/// The lists of a slice that refers to no picture.
+/// Returns the lists of a slice that refers to no picture.
 fn no_lists(alloc: Global) -> RefLists {
     RefLists {
         first: RefList::new(alloc),
@@ -65,7 +65,7 @@ struct Slice {
 }
 
 impl Slice {
-    /// The slice that words tell.
+    /// Returns the slice that words describe.
     fn parse(
         alloc: Global,
         header: &str,
@@ -80,7 +80,7 @@ impl Slice {
     }
 }
 
-/// The input of a slice, of whose picture header one field is kept.
+/// Returns the input of a slice, of whose picture header one field is kept.
 fn input(alloc: Global, slice: &Slice) -> Result<Box<DecodingInput<'_>>, AllocError> {
     let mut kept = Kept::new(alloc);
     kept.push(slice.header)?;

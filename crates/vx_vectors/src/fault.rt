@@ -7,22 +7,22 @@ use thiserror::Error;
 use vx_assemble::FeedFault;
 use vx_bits::{ReadError, Refusal};
 
-/// Why a line gets no answer of what it asks about.
+/// The reason why a line has no result.
 #[derive(Clone, Copy, Debug, Error)]
 pub(crate) enum LineFault {
     /// Memory ran out.
     #[error("out of memory")]
     Memory,
-    /// The bytes are refused, which is an answer too.
+    /// The bytes are refused, which is a result too.
     #[error("refused")]
     Refused(Refusal),
     /// It begins with none of the words.
     #[error("its word isn't known")]
     Word,
-    /// Something else stands where a number is to stand.
+    /// Something else is in the place of a number.
     #[error("its number can't be read")]
     Number,
-    /// Something else stands where bytes are to stand.
+    /// Something else is in the place of bytes.
     #[error("its bytes aren't two digits each, or too many")]
     Bytes,
     /// They are no NAL unit.
@@ -37,7 +37,7 @@ pub(crate) enum LineFault {
     /// Its source can't be read on.
     #[error("the stream can't be read on")]
     Stopped,
-    /// Other words stand behind its word than the call takes.
+    /// Its name has other arguments than the call takes.
     #[error("the words behind its word aren't those of a call")]
     Words,
 }
@@ -105,7 +105,7 @@ impl Fault {
     ghost use Rattle.std.specs.Prelude.{◌≡◌};
     ghost use Rattle.vx_vectors.specs.Told.{status_of};
 
-    /// The status with which the program ends.
+    /// Returns the status with which the program ends.
     pub(crate) fn status(&self) -> u8
         ensures { result ≡ status_of self.now }
     {

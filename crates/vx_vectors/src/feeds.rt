@@ -7,7 +7,7 @@ use std::alloc::{AllocError, Global};
 use vx_assemble::Feed;
 use vx_io::MemorySource;
 
-/// The calls that fail, as `0,1`, and none for `-`.
+/// Returns the calls that fail, as `0,1`, and none for `-`.
 fn failing(alloc: Global, word: &str) -> Result<Vec<u64>, LineFault> {
     if word == "-" {
         return Ok(Vec::new(alloc));
@@ -15,7 +15,7 @@ fn failing(alloc: Global, word: &str) -> Result<Vec<u64>, LineFault> {
     numbers(alloc, word)
 }
 
-/// A source of these bytes, in pieces of this size, whose calls of these numbers fail.
+/// Returns a source of these bytes, in pieces of this size, whose calls of these numbers fail.
 fn source_in_pieces(
     alloc: Global,
     bytes: &[u8],
@@ -27,14 +27,14 @@ fn source_in_pieces(
     Ok(MemorySource::new(Vec::from_slice(alloc, bytes)?, pieces, failing))
 }
 
-/// A new feed, in memory of its own.
+/// Returns a new feed, in memory of its own.
 pub(crate) fn new_feed(alloc: Global) -> Result<Box<Feed>, AllocError> {
     let feed = Feed::new(alloc)?;
     Ok(Box::new(alloc, feed)?)
 }
 
-/// Appends what a feed answers where it is to take a unit, and another, and then to advance; and behind that how many units it
-/// took, and whether it may read on.
+/// Appends what a feed returns if it is to take a unit, and another, and then to advance; and after that how many units it took, and
+/// whether it may read on.
 fn write_feed(
     text: &mut String,
     feed: &mut Feed,
@@ -50,7 +50,7 @@ fn write_feed(
     Ok(())
 }
 
-/// Appends what a new feed answers over a source.
+/// Appends what a new feed returns over a source.
 fn write_new_feed(
     text: &mut String,
     alloc: Global,
@@ -60,7 +60,7 @@ fn write_new_feed(
     write_feed(text, &mut feed, source)
 }
 
-/// `feed PIECE CALLS BYTES`: what a feed answers over bytes that come in pieces of this size, where these calls fail.
+/// `feed PIECE CALLS BYTES`: what a feed returns over bytes that come in pieces of this size, if these calls fail.
 pub(crate) fn answer_feed(
     text: &mut String,
     alloc: Global,

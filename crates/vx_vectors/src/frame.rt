@@ -22,11 +22,9 @@ pub(crate) struct Sets {
 }
 
 impl Sets {
-    /// Those of the RBSPs of an SPS and of a PPS.
+    /// Reads the sets from the RBSPs of an SPS and of a PPS.
     ///
-    /// # Errors
-    ///
-    /// The first refusal; want of memory.
+    /// *Errors:* the first refusal; lack of memory.
     pub(crate) fn read(alloc: Global, sps: &[u8], pps: &[u8]) -> Result<Box<Sets>, ReadError>
         requires sps { length sps.now ≤ unit_limit }
         requires pps { length pps.now ≤ unit_limit }
@@ -55,7 +53,7 @@ pub(crate) struct Frame<'a> {
 }
 
 impl<'a> Frame<'a> {
-    /// What is in force at a slice of a unit of a type, under a picture header.
+    /// Returns what is in force at a slice of a unit of a type, under a picture header.
     pub(crate) fn at_slice<'b>(
         &'b self,
         nal_type: u8,
@@ -81,11 +79,9 @@ impl<'a> Frame<'a> {
     }
 }
 
-/// What two sets make up.
+/// Returns what two sets make up.
 ///
-/// # Errors
-///
-/// The lowest fault of the layout; want of memory.
+/// *Errors:* the lowest fault of the layout; lack of memory.
 pub(crate) fn frame_of<'a>(
     alloc: Global,
     sps: &'a Sps,

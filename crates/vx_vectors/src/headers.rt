@@ -44,7 +44,7 @@ fn write_header(
     write_closed(text, alloc, header, rbsp, sps, pps)
 }
 
-/// The bits of a picture header without a trailing, and a trailing behind them.
+/// Returns the bits of a picture header without a trailing, and a trailing after them.
 fn closed(
     alloc: Global,
     header: &PictureHeader,
@@ -58,7 +58,7 @@ fn closed(
     bits.close()
 }
 
-/// Appends what a picture header comes to that is written without a trailing and closed then, where that isn't this RBSP.
+/// Appends what a picture header gives that is written without a trailing and closed then, if that isn't this RBSP.
 fn write_closed(
     text: &mut String,
     alloc: Global,

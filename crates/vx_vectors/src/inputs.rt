@@ -18,7 +18,7 @@ pub(crate) fn write_list(text: &mut String, list: &RefList) -> Result<(), AllocE
     Ok(())
 }
 
-/// Appends a body, where there is one, and else what stands for none.
+/// Appends a body, or `none` if there isn't one.
 fn write_body(text: &mut String, body: Option<&[u8]>, none: &str) -> Result<(), AllocError> {
     match body {
         Some(body) => write_bytes(text, body),

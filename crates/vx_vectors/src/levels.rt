@@ -20,7 +20,7 @@ pub(crate) enum Asked {
     Ptl,
     /// DPB parameters.
     Dpb,
-    /// General timing, and sublayer timing behind it.
+    /// General timing, and sublayer timing after it.
     Timing,
 }
 
@@ -32,7 +32,7 @@ struct Sublayers {
     ghost most: { max ≤ 6 },
 }
 
-/// Those that a word names, as `6,1`.
+/// Returns the sublayers that a word names, as `6,1`.
 fn named_sublayers(alloc: Global, word: &str) -> Result<Sublayers, LineFault> {
     let numbers = numbers(alloc, word)?;
     let [max, each] = numbers.as_slice() else {
@@ -47,7 +47,7 @@ fn named_sublayers(alloc: Global, word: &str) -> Result<Sublayers, LineFault> {
     })
 }
 
-/// The bytes of items, with a one and zeros behind them; of none where they have no codes.
+/// Returns the bytes of items, with a one and zeros after them; of none if they have no codes.
 fn written(alloc: Global, read: &Fields) -> Result<Vec<u8>, AllocError> {
     let mut bits = BitWriter::new(alloc);
     if is_run(read, 0, read.len()) {
@@ -56,7 +56,7 @@ fn written(alloc: Global, read: &Fields) -> Result<Vec<u8>, AllocError> {
     bits.close()
 }
 
-/// Reads general timing, and sublayer timing behind it.
+/// Reads general timing, and sublayer timing after it.
 fn read_both(
     bits: &mut BitReader<'_>,
     up_to: &Sublayers,

@@ -20,7 +20,7 @@ impl LineBytes {
     ghost use Rattle.std.specs.Prelude.{◌≡◌, ◌<◌, ◌≤◌, length, IfOk, IfErr};
     ghost use Rattle.vx_bits.specs.Limits.{unit_limit};
 
-    /// These bytes, where they aren't too many.
+    /// Returns these bytes, if they aren't too many.
     pub(crate) fn new(bytes: Vec<u8>) -> Result<LineBytes, LineFault>
         ensures bytes { IfOk result (λ line. line.bytes ≡ bytes) }
         ensures many { IfErr result (λ _. unit_limit < length bytes.items) }
@@ -31,7 +31,7 @@ impl LineBytes {
         Ok(LineBytes { bytes })
     }
 
-    /// The bytes that hexadecimal digits name, or none for `-`.
+    /// Returns the bytes that hexadecimal digits name, or none for `-`.
     pub(crate) fn parse(alloc: Global, digits: &str) -> Result<LineBytes, LineFault> {
         if digits == "-" {
             return LineBytes::new(Vec::new(alloc));
@@ -42,7 +42,7 @@ impl LineBytes {
         }
     }
 
-    /// The bytes.
+    /// Returns the bytes.
     pub(crate) fn as_slice(&self) -> &[u8]
         ensures bytes { result.now ≡ self.now.bytes.items }
         ensures few { length result.now ≤ unit_limit }
@@ -51,7 +51,7 @@ impl LineBytes {
     }
 }
 
-/// The bytes that several words name.
+/// Returns the bytes that several words name.
 fn all_bytes(alloc: Global, words: &str) -> Result<Vec<LineBytes>, LineFault> {
     let mut all = Vec::new(alloc);
     for digits in words.split(' ') {
@@ -75,11 +75,9 @@ pub(crate) enum Line {
 }
 
 impl Line {
-    /// What a line asks about.
+    /// Returns what a line asks about.
     ///
-    /// # Errors
-    ///
-    /// Where its word isn't known, or something else follows than belongs to it.
+    /// *Errors:* an unknown word, or other arguments than belong to it.
     pub(crate) fn parse(alloc: Global, line: &str) -> Result<Line, LineFault> {
         let (word, rest) = line.split_once(' ').unwrap_or((line, ""));
         match word {
@@ -90,7 +88,7 @@ impl Line {
         }
     }
 
-    /// A slice header, behind the type of its unit.
+    /// Returns a slice header, after the type of its unit.
     fn parse_slice(alloc: Global, words: &str) -> Result<Line, LineFault> {
         let (nal_type, rbsp) = words.split_once(' ').ok_or(LineFault::Bytes)?;
         let nal_type = nal_type.parse::<u8>()?;

@@ -55,7 +55,7 @@ pub(crate) fn answer_picture_line(
     write_line(text, &picture_line(alloc, numbers)?)
 }
 
-/// A cause by its name.
+/// Returns a cause by its name.
 fn cause(word: &str) -> Result<BitCause, LineFault> {
     match word {
         "Short" => Ok(BitCause::Short),
@@ -67,7 +67,7 @@ fn cause(word: &str) -> Result<BitCause, LineFault> {
     }
 }
 
-/// A refusal at a field.
+/// Returns a refusal at a field.
 fn syntax(words: &[&str]) -> Result<Refusal, LineFault> {
     let [field, bit, word] = words else {
         return Err(LineFault::Words);
@@ -79,7 +79,7 @@ fn syntax(words: &[&str]) -> Result<Refusal, LineFault> {
     })
 }
 
-/// A refusal of a structure.
+/// Returns a refusal of a structure.
 fn structure(words: &[&str]) -> Result<Refusal, LineFault> {
     let [code, kind, id] = words else {
         return Err(LineFault::Words);
@@ -91,7 +91,7 @@ fn structure(words: &[&str]) -> Result<Refusal, LineFault> {
     })
 }
 
-/// A refusal of a merge.
+/// Returns a refusal of a merge.
 fn merge(words: &[&str]) -> Result<Refusal, LineFault> {
     let [code, source, field] = words else {
         return Err(LineFault::Words);
@@ -103,7 +103,7 @@ fn merge(words: &[&str]) -> Result<Refusal, LineFault> {
     })
 }
 
-/// A refusal by the letter of its rules and its number.
+/// Returns a refusal by the letter of its rules and its number.
 fn numbered(letter: &str, words: &[&str]) -> Result<Refusal, LineFault> {
     let [code, more @ ..] = words else {
         return Err(LineFault::Words);
@@ -121,8 +121,8 @@ fn numbered(letter: &str, words: &[&str]) -> Result<Refusal, LineFault> {
     }
 }
 
-/// A refusal by its letter and what belongs to it: `F CODE BYTE`, `Y FIELD BIT CAUSE`, `S CODE KIND ID`, `M CODE SOURCE FIELD`, and
-/// `P`, `L` and `E` with a code.
+/// Returns a refusal by its letter and what belongs to it: `F CODE BYTE`, `Y FIELD BIT CAUSE`, `S CODE KIND ID`, `M CODE SOURCE FIELD`,
+/// and `P`, `L` and `E` with a code.
 fn refusal(letter: &str, words: &[&str]) -> Result<Refusal, LineFault> {
     match letter {
         "Y" => syntax(words),

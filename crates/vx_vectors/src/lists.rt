@@ -16,8 +16,8 @@ use vx_rpl::{
 };
 use vx_table::SpellError;
 
-/// What sets in force say of lists: whether there are long-term entries, whether there are weights, the bits of a count, and whether
-/// list 1 has an index of its own.
+/// Returns what sets in force say of lists: whether there are long-term entries, whether there are weights, the bits of a count, and
+/// whether list 1 has an index of its own.
 fn rpl_numbers(alloc: Global, word: &str) -> Result<RplNumbers, LineFault>
     ensures { IfOk result (λ numbers. (4 ≤ numbers.lsb_bits) × (numbers.lsb_bits ≤ 16)) }
 {
@@ -36,14 +36,14 @@ fn rpl_numbers(alloc: Global, word: &str) -> Result<RplNumbers, LineFault>
     })
 }
 
-/// The structures of both lists, as items tell them.
+/// Returns the structures of both lists, as items state them.
 fn table(alloc: Global, numbers: &RplNumbers, word: &str) -> Result<Box<RplTable>, LineFault> {
     let items = items(alloc, word)?;
     let table = RplTable::new(alloc, numbers, &items, 0, items.len())?;
     Ok(Box::new(alloc, table).map_err(AllocError::from)?)
 }
 
-/// `structures WEIGHTED ITEMS`: the structures of list 0 and of list 1 that items of an SPS tell.
+/// `structures WEIGHTED ITEMS`: the structures of list 0 and of list 1 that items of an SPS state.
 pub(crate) fn answer_structures(
     text: &mut String,
     alloc: Global,
@@ -62,7 +62,7 @@ pub(crate) fn answer_structures(
     write_table(text, &table)
 }
 
-/// The index of a structure, and how many there are.
+/// Returns the index of a structure, and how many there are.
 fn place(alloc: Global, word: &str) -> Result<(u32, u32), LineFault> {
     let numbers = numbers(alloc, word)?;
     match numbers.as_slice() {
@@ -105,7 +105,7 @@ pub(crate) fn answer_structure(
     write_structure(text, alloc, &in_force, place, &bytes)
 }
 
-/// The bytes of what was written, with a one and zeros behind it; none where the items weren't those of a value.
+/// Returns the bytes of what was written, with a one and zeros after it; `None` if the items weren't those of a value.
 fn closed(spelled: Result<(), SpellError>, bits: BitWriter) -> Result<Option<Vec<u8>>, LineFault> {
     match spelled {
         Ok(()) => Ok(Some(bits.close()?)),
@@ -178,7 +178,7 @@ fn write_entries_walked(
     Ok(())
 }
 
-/// What is written of the items of lists.
+/// Returns what is written of the items of lists.
 fn lists_written(
     alloc: Global,
     in_force: &RplNumbers,
@@ -210,7 +210,7 @@ fn write_lists_told(
     write_again(text, written.as_ref(), bytes.as_slice())
 }
 
-/// Appends what is read of lists, and what they come to.
+/// Appends what is read of lists, and what they give.
 fn write_lists_of(
     text: &mut String,
     alloc: Global,
@@ -231,7 +231,7 @@ fn write_lists_of(
     }
 }
 
-/// `lists NUMBERS ITEMS BYTES`: what is read of the two lists of a header, under the structures that items of an SPS tell.
+/// `lists NUMBERS ITEMS BYTES`: what is read of the two lists of a header, under the structures that items of an SPS state.
 pub(crate) fn answer_lists(
     text: &mut String,
     alloc: Global,
@@ -246,7 +246,7 @@ pub(crate) fn answer_lists(
     write_lists_of(text, alloc, &in_force, &table, &bytes)
 }
 
-/// What the sets in force and the lists say to weights.
+/// Returns what the sets in force and the lists say of weights.
 fn weight_numbers(alloc: Global, word: &str) -> Result<WeightNumbers, LineFault> {
     let numbers = numbers(alloc, word)?;
     let [
@@ -270,7 +270,7 @@ fn weight_numbers(alloc: Global, word: &str) -> Result<WeightNumbers, LineFault>
     })
 }
 
-/// What is written of the items of weights.
+/// Returns what is written of the items of weights.
 fn weights_written(
     alloc: Global,
     numbers: &WeightNumbers,

@@ -56,7 +56,7 @@ fn main(rt: HostRuntime) -> ExitCode {
     }
 }
 
-/// Answers the lines of the input.
+/// Prints the results of the lines of the input.
 fn answer_lines(rt: &(impl Input + Print + AllocGlobal)) -> Result<(), Fault> {
     let mut answers = BufWriter::new(rt.alloc(), io::writer(rt))?;
     write_answers(&mut answers, rt)?;
@@ -64,13 +64,13 @@ fn answer_lines(rt: &(impl Input + Print + AllocGlobal)) -> Result<(), Fault> {
     Ok(())
 }
 
-/// Writes the answers to the lines of the input.
+/// Writes the results for the lines of the input.
 fn write_answers(answers: &mut impl Write, rt: &(impl Input + AllocGlobal)) -> Result<(), Fault> {
     let mut stream = Stream::new(rt.alloc());
     answer_each(answers, rt, &mut stream)
 }
 
-/// Writes the answer to each line of the input, behind others, of which the stream tells.
+/// Writes the result for each line of the input. `stream` has what earlier lines said.
 fn answer_each(
     answers: &mut impl Write,
     rt: &(impl Input + AllocGlobal),
@@ -85,7 +85,7 @@ fn answer_each(
     Ok(())
 }
 
-/// Writes the answer to the line of this number, behind others, of which the stream tells.
+/// Writes the result for the line of this number. `stream` has what earlier lines said.
 fn answer_line(
     answers: &mut impl Write,
     alloc: Global,
@@ -100,7 +100,7 @@ fn answer_line(
     }
 }
 
-/// Appends the answer to a line.
+/// Appends the result for a line.
 fn write_answer(
     text: &mut String,
     alloc: Global,
@@ -114,7 +114,7 @@ fn write_answer(
     write_told(text, alloc, stream, &line)
 }
 
-/// Appends what is told of what a line asks about, or the refusal alone.
+/// Appends what a line asks about, or only the refusal.
 fn write_told(
     text: &mut String,
     alloc: Global,
@@ -130,11 +130,9 @@ fn write_told(
     }
 }
 
-/// Appends what is told of what a line asks about.
+/// Appends what a line asks about.
 ///
-/// # Errors
-///
-/// The first refusal, where some of the answer may stand before it; want of memory; where it can't be asked.
+/// *Errors:* the first refusal, perhaps after part of the result; lack of memory; a question that can't be asked.
 fn tell(
     text: &mut String,
     alloc: Global,

@@ -8,7 +8,7 @@ use vx_pps::Pps;
 use vx_rpl::{RefEntry, RefList, RplTable, StructureList};
 use vx_sps::Sps;
 
-/// Appends the entries of a structure; the bits of a long-term one may stand in headers.
+/// Appends the entries of a structure; the bits of a long-term one may be in headers.
 fn write_entries(text: &mut String, list: &RefList, in_header: bool) -> Result<(), AllocError> {
     for i in 0..list.len() {
         text.push_str(mark(i, ","))?;
@@ -83,7 +83,7 @@ pub(crate) fn write_picture(text: &mut String, sps: &Sps) -> Result<(), AllocErr
     write_filtered(text, sps)
 }
 
-/// Appends what a sequence parameter set tells: its picture, its subpictures, and its structures of reference picture lists.
+/// Appends what a sequence parameter set means: its picture, its subpictures, and its structures of reference picture lists.
 pub(crate) fn write_sps_meaning(text: &mut String, sps: &Sps) -> Result<(), LineFault> {
     write_picture(text, sps)?;
     text.push_str(" lists=")?;
@@ -98,7 +98,7 @@ fn write_slices(text: &mut String, pps: &Pps) -> Result<(), AllocError> {
     }
 }
 
-/// Appends what a picture parameter set tells: its tiles, and its slices, which may be those of the subpictures.
+/// Appends what a picture parameter set means: its tiles, and its slices, which may be those of the subpictures.
 pub(crate) fn write_pps_meaning(text: &mut String, pps: &Pps) -> Result<(), AllocError> {
     if !pps.partitioned() {
         return text.push_str(" | unpartitioned");

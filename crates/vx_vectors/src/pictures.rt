@@ -9,7 +9,7 @@ use vx_assemble::{Feed, Step};
 use vx_io::MemorySource;
 use vx_pic::{DecodingInput, Kind, Picture, decoding_input};
 
-/// A source of these bytes.
+/// Returns a source of these bytes.
 fn source_of(alloc: Global, stream: &[u8]) -> Result<MemorySource, AllocError> {
     let bytes = Vec::from_slice(alloc, stream)?;
     Ok(MemorySource::new(bytes, Vec::new(alloc), Vec::new(alloc)))
@@ -38,7 +38,7 @@ fn write_head(
     write!(text, " subpictures={subpictures} slices={slices}")
 }
 
-/// The decoding input of a slice of a picture, in memory of its own.
+/// Returns the decoding input of a slice of a picture, in memory of its own.
 fn input_of<'a>(
     alloc: Global,
     picture: &Picture<'a>,
@@ -72,7 +72,7 @@ fn write_slices(text: &mut String, alloc: Global, picture: &Picture<'_>) -> Resu
     Ok(())
 }
 
-/// Appends lines of a picture, with its number, behind so many units.
+/// Appends lines of a picture, with its number, after this many units.
 fn write_picture(
     text: &mut String,
     alloc: Global,
@@ -119,9 +119,7 @@ fn write_pictures(
 
 /// Appends lines of the pictures of a stream.
 ///
-/// # Errors
-///
-/// The first rule that the stream breaks, where lines of pictures before it may stand; want of memory.
+/// *Errors:* the first rule that the stream breaks, perhaps after lines of earlier pictures; lack of memory.
 pub(crate) fn answer_pictures(
     text: &mut String,
     alloc: Global,

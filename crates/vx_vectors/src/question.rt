@@ -30,16 +30,16 @@ pub(crate) enum Question {
     KeptPps,
     /// The numbers of an SPS, which may be a large one.
     SpsNumbers,
-    /// An SPS, rewritten so that it says what another one says.
+    /// An SPS, rewritten to say what another one says.
     SpsLike,
-    /// A PPS, rewritten so that it says what that of other sets says, an SPS and a PPS.
+    /// A PPS, rewritten to say what that of other sets says, an SPS and a PPS.
     PpsLike {
         /// Whether it is for a frame of several sources.
         merged: bool,
     },
-    /// A picture header, rewritten so that it says what another one says.
+    /// A picture header, rewritten to say what another one says.
     HeaderLike {
-        /// Whether it stands behind a first bit.
+        /// Whether it comes after a first bit.
         inside: bool,
     },
     /// A picture header by itself.
@@ -47,11 +47,9 @@ pub(crate) enum Question {
 }
 
 impl Question {
-    /// What a word asks.
+    /// Returns what a word asks.
     ///
-    /// # Errors
-    ///
-    /// Where it isn't known.
+    /// *Errors:* an unknown word.
     pub(crate) fn parse(word: &str) -> Result<Question, LineFault> {
         match word {
             "vps" => Ok(Question::Vps),
@@ -72,12 +70,10 @@ impl Question {
     }
 }
 
-/// Appends the answer to what is asked of bytes behind the units of a stream.
+/// Appends the result for what is asked of bytes after the units of a stream.
 ///
-/// # Errors
-///
-/// The first refusal; where no set can say what is asked, or one hasn't come; where there are more or fewer bytes than it takes;
-/// want of memory.
+/// *Errors:* the first refusal; a set that can't be; a set that hasn't come; too many or too few bytes; lack
+/// of memory.
 pub(crate) fn answer_question(
     text: &mut String,
     alloc: Global,
@@ -101,11 +97,9 @@ pub(crate) fn answer_question(
     }
 }
 
-/// Appends the answer to what is asked of the RBSP of a set.
+/// Appends the result for what is asked of the RBSP of a set.
 ///
-/// # Errors
-///
-/// The first refusal; where more bytes are needed; want of memory.
+/// *Errors:* the first refusal; too few bytes; lack of memory.
 fn answer_set(
     text: &mut String,
     alloc: Global,

@@ -8,7 +8,7 @@ use crate::slices::behind_first;
 use std::alloc::Global;
 use vx_bits::BitReader;
 
-/// The bits of a header, which may stand behind a first bit.
+/// Returns the bits of a header, which may stand after a first bit.
 fn bits_of(header: &LineBytes, inside: bool) -> BitReader<'_> {
     let bytes = header.as_slice();
     if inside && !bytes.is_empty() {
@@ -17,8 +17,8 @@ fn bits_of(header: &LineBytes, inside: bool) -> BitReader<'_> {
     BitReader::new(bytes)
 }
 
-/// Appends what is written of a header that is read under a source's sets, and rewritten so that it says what a unit says under those
-/// of a frame, an SPS and a PPS.
+/// Appends what is written of a header that is read under a source's sets, and rewritten to say what a unit says under those of a frame,
+/// an SPS and a PPS.
 fn write_for_frame(
     text: &mut String,
     alloc: Global,
@@ -32,12 +32,10 @@ fn write_for_frame(
     answer_reshaped_ph(text, alloc, own, &frame, bits, like.as_slice())
 }
 
-/// Appends what is written of a header that is rewritten: the bytes are those of the two sets that it is read under, of those of a
-/// frame, of the header, which may stand behind a first bit, and of the unit that says what it is to say.
+/// Appends what is written of a header that is rewritten: the bytes are those of the two sets that it is read under, of those of a frame,
+/// of the header, which may stand after a first bit, and of the unit that says what it is to say.
 ///
-/// # Errors
-///
-/// The first refusal; where there are more bytes or fewer; where no header can say what is asked; want of memory.
+/// *Errors:* the first refusal; too many or too few bytes; a rewritten header that can't be; lack of memory.
 pub(crate) fn answer_header_like(
     text: &mut String,
     alloc: Global,

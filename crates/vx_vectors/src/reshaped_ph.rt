@@ -21,14 +21,14 @@ use vx_ph::{LmcsShape, PhShape, PictureHeader, read_ph, read_ph_unit, reshape_ph
 use vx_pps::{Pps, keep_pps};
 use vx_sps::keep_sps;
 
-/// Whether two lists have the same items.
+/// Returns whether two lists have the same items.
 fn are_same(a: &Fields, b: &Fields) -> bool
     ensures { OnTrue result (a.now ≡ b.now) }
 {
     a.as_slice() == b.as_slice()
 }
 
-/// The items of sets are those of sets.
+/// States that the items of sets are those of sets.
 fn are_sets(sets: &Sets)
     ensures sps { sps_set.AreSpsItems sets.now.sps }
     ensures pps { pps_set.ArePpsItems sets.now.pps }
@@ -37,7 +37,7 @@ fn are_sets(sets: &Sets)
     let _ = sets.pps.fields();
 }
 
-/// Whether sets of a frame have the kept fields of a source's.
+/// Returns whether sets of a frame have the kept fields of a source's.
 fn have_same_kept(alloc: Global, own: &Sets, frame: &Sets) -> Result<bool, AllocError>
     ensures { IfOk result (λ same. OnTrue same (HaveSameKept own.now.sps own.now.pps frame.now.sps frame.now.pps)) }
 {
@@ -52,7 +52,7 @@ fn have_same_kept(alloc: Global, own: &Sets, frame: &Sets) -> Result<bool, Alloc
     Ok(true)
 }
 
-/// Whether a PPS has the filter and the QP in slice headers.
+/// Returns whether a PPS has the filter and the QP in slice headers.
 fn is_apart(pps: &Pps) -> bool
     ensures { OnTrue result (IsApart pps.now) }
 {
@@ -60,7 +60,7 @@ fn is_apart(pps: &Pps) -> bool
         && pps.scope().latest(pps_qp_delta_info_in_ph_flag) == 0
 }
 
-/// Whether a header can have such numbers.
+/// Returns whether a header can have such numbers.
 fn is_shape(shape: &PhShape) -> bool
     ensures { OnTrue result (IsShape shape.now) }
 {
@@ -75,7 +75,7 @@ fn is_shape(shape: &PhShape) -> bool
     shape.pps_id < 64 && has_lmcs && has_scaling
 }
 
-/// What a header says of luma mapping with chroma scaling.
+/// Returns what a header says of luma mapping with chroma scaling.
 fn lmcs_of(header: &PictureHeader) -> Result<Option<LmcsShape>, LineFault> {
     let fields = &header.fields;
     if number(fields, ph_lmcs_enabled_flag) == 0 {
@@ -87,7 +87,7 @@ fn lmcs_of(header: &PictureHeader) -> Result<Option<LmcsShape>, LineFault> {
     }))
 }
 
-/// What a header says that isn't its source's.
+/// Returns what a header says that isn't its source's.
 fn shape_of(header: &PictureHeader) -> Result<PhShape, LineFault> {
     let fields = &header.fields;
     let has_scaling = number(fields, ph_explicit_scaling_list_enabled_flag) != 0;
@@ -99,7 +99,7 @@ fn shape_of(header: &PictureHeader) -> Result<PhShape, LineFault> {
     })
 }
 
-/// What a unit says under sets that isn't its source's.
+/// Returns what a unit says under sets that isn't its source's.
 fn like_of(alloc: Global, like: &[u8], frame: &Sets) -> Result<PhShape, LineFault>
     requires { length like.now ≤ unit_limit }
 {
@@ -107,7 +107,7 @@ fn like_of(alloc: Global, like: &[u8], frame: &Sets) -> Result<PhShape, LineFaul
     shape_of(&header)
 }
 
-/// The unit that is sent of a header that was read.
+/// Returns the unit that is sent of a header that was read.
 fn rewritten(
     alloc: Global,
     source: &PictureHeader,
@@ -153,12 +153,10 @@ fn write_sent(
     write_rewritten(text, alloc, &source, shape, frame)
 }
 
-/// Appends what is written of the header that is read under a source's sets, and that is rewritten so that it says what a unit says
-/// under those of a frame.
+/// Appends what is written of the header that is read under a source's sets, and that is rewritten to say what a unit says under those of
+/// a frame.
 ///
-/// # Errors
-///
-/// The first refusal; where it can't say that; want of memory.
+/// *Errors:* the first refusal; if it can't say that; lack of memory.
 pub(crate) fn answer_reshaped_ph(
     text: &mut String,
     alloc: Global,

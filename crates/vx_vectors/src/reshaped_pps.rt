@@ -28,11 +28,9 @@ struct Division {
     slices: RectList,
 }
 
-/// The tiles and slices of the only subpicture of a picture whose PPS lists its slices.
+/// Returns the tiles and slices of the only subpicture of a picture whose PPS lists its slices.
 ///
-/// # Errors
-///
-/// Where there are several subpictures, or the PPS lists no slices; want of memory.
+/// *Errors:* if there are several subpictures, or the PPS lists no slices; lack of memory.
 fn division_of(alloc: Global, like: &Frame<'_>) -> Result<Division, LineFault>
     requires { AnswersLayout like.now.sps.now like.now.pps.now (Ok like.now.layout) }
     ensures layout { IfOk result (λ d. HasLayout (picture_of d.tiles d.slices)) }
@@ -61,7 +59,7 @@ fn division_of(alloc: Global, like: &Frame<'_>) -> Result<Division, LineFault>
     })
 }
 
-/// The bits of the id of the one subpicture, less 1, and the id, where a set has it.
+/// Returns the bits of the id of the one subpicture, minus 1, and the id, if a set has it.
 fn id_of(pps: &Pps) -> Option<(u32, u32)> {
     let numbers = pps.scope();
     if numbers.latest(pps_subpic_id_mapping_present_flag) == 0 {
@@ -71,13 +69,13 @@ fn id_of(pps: &Pps) -> Option<(u32, u32)> {
     Some((bits, numbers.latest(pps_subpic_id)))
 }
 
-/// The QP from which slices differ, less 26.
+/// Returns the QP from which slices differ, minus 26.
 fn init_qp(pps: &Pps) -> Result<i32, LineFault> {
     let value = pps.fields().first(pps_init_qp_minus26).unwrap_or(0);
     i32::try_from(value).map_err(|_| LineFault::Shape)
 }
 
-/// The ids of a set, and the QP from which slices differ, less 26.
+/// The ids of a set, and the QP from which slices differ, minus 26.
 #[derive(Clone, Copy)]
 struct SetNumbers {
     id: u8,
@@ -85,11 +83,9 @@ struct SetNumbers {
     init_qp: i32,
 }
 
-/// Those of a set.
+/// Returns the ids and the QP of a set.
 ///
-/// # Errors
-///
-/// Where no set can have them.
+/// *Errors:* if no set can have them.
 fn numbers_of(pps: &Pps) -> Result<SetNumbers, LineFault> {
     let numbers = pps.scope();
     Ok(SetNumbers {
@@ -99,7 +95,7 @@ fn numbers_of(pps: &Pps) -> Result<SetNumbers, LineFault> {
     })
 }
 
-/// What the PPS of others says, whose numbers are these, with these tiles and slices.
+/// Returns what the PPS of others says, whose numbers are these, with these tiles and slices.
 fn shape_of(like: &Frame<'_>, own: SetNumbers, division: Division, merged: bool) -> PpsShape
     ensures tiles { result.tiles ≡ division.tiles }
     ensures slices { result.slices ≡ division.slices }
@@ -123,14 +119,14 @@ fn shape_of(like: &Frame<'_>, own: SetNumbers, division: Division, merged: bool)
     }
 }
 
-/// Whether a picture can be so wide or high, in luma samples.
+/// Returns whether a picture can be this wide or high, in luma samples.
 fn is_size(size: u32) -> bool
     ensures { OnTrue result (IsSize size) }
 {
     0 < size && size <= 16384 && size % 8 == 0
 }
 
-/// Whether an id has so many bits, less 1, as are said.
+/// Returns whether an id has the stated number of bits.
 fn is_id(id: Option<(u32, u32)>) -> bool
     ensures { OnTrue result (IfSome id (λ (bits, id). (bits ≤ 15) × (id < 2 ^ (bits + 1)))) }
 {
@@ -140,7 +136,7 @@ fn is_id(id: Option<(u32, u32)>) -> bool
     }
 }
 
-/// Whether a set can have the ids, the size and the QP of a shape.
+/// Returns whether a set can have the ids, the size and the QP of a shape.
 fn has_numbers(shape: &PpsShape) -> bool
     ensures id { OnTrue result (shape.now.id < 64) }
     ensures sps_id { OnTrue result (shape.now.sps_id < 16) }
@@ -156,21 +152,21 @@ fn has_numbers(shape: &PpsShape) -> bool
         && shape.init_qp <= 37
 }
 
-/// Whether bounds end where a picture so wide or high does, in CTUs of a size.
+/// Returns whether bounds end where a picture this wide or high does, in CTUs of a size.
 fn ends_at(bounds: &Bounds, size: u32, ctb: u32) -> bool
     ensures { OnTrue result (last bounds.now ≡ div_ceil size ctb) }
 {
     ctb != 0 && bounds.len() != 0 && bounds.last() == size.div_ceil(ctb)
 }
 
-/// Whether CTUs have such a size.
+/// Returns whether CTUs have such a size.
 fn is_ctb(size: u32) -> bool
     ensures { OnTrue result ((log2 : ℕ) × (log2 < 3) × (size ≡ 2 ^ (log2 + 5))) }
 {
     size == 32 || size == 64 || size == 128
 }
 
-/// Whether a picture of a size is made up of these tiles and slices.
+/// Returns whether a picture of a size is made up of these tiles and slices.
 fn can_be_divided(shape: &PpsShape) -> bool
     requires layout { HasLayout (picture_of shape.now.tiles shape.now.slices) }
     requires listable { AreListable shape.now.tiles.columns shape.now.tiles.rows shape.now.slices }
@@ -182,11 +178,9 @@ fn can_be_divided(shape: &PpsShape) -> bool
         && ends_at(&shape.tiles.rows, shape.height, ctb)
 }
 
-/// The set of a shape, where it can have the numbers of that.
+/// Returns the set of a shape, if it can have the numbers of that.
 ///
-/// # Errors
-///
-/// Where it can't; want of memory.
+/// *Errors:* if it can't; lack of memory.
 fn reshaped(alloc: Global, source: &Pps, shape: &PpsShape) -> Result<Pps, LineFault>
     requires { whole_flag source.now shape.now ≡ 0 → CanBeDivided shape.now }
 {
@@ -196,11 +190,9 @@ fn reshaped(alloc: Global, source: &Pps, shape: &PpsShape) -> Result<Pps, LineFa
     Ok(reshape_pps(alloc, source, shape)?)
 }
 
-/// The set that says what a partitioned one says.
+/// Returns the set that says what a partitioned one says.
 ///
-/// # Errors
-///
-/// Where it can't say that; want of memory.
+/// *Errors:* if it can't say that; lack of memory.
 fn divided_like(
     alloc: Global,
     source: &Pps,
@@ -218,11 +210,9 @@ fn divided_like(
     reshaped(alloc, source, &shape)
 }
 
-/// The set that says what one says that isn't partitioned, and isn't itself. Nothing is asked of tiles and slices.
+/// Returns the set that says what one says that isn't partitioned, and isn't itself. Nothing is asked of tiles and slices.
 ///
-/// # Errors
-///
-/// Where it is partitioned, or can't say that; want of memory.
+/// *Errors:* if it is partitioned, or can't say that; lack of memory.
 fn whole_like(alloc: Global, source: &Pps, like: &Frame<'_>) -> Result<Pps, LineFault> {
     if source.partitioned() {
         return Err(LineFault::Shape);
@@ -239,11 +229,9 @@ fn whole_like(alloc: Global, source: &Pps, like: &Frame<'_>) -> Result<Pps, Line
     reshaped(alloc, source, &shape)
 }
 
-/// The set that says what the PPS of others says.
+/// Returns the set that says what the PPS of others says.
 ///
-/// # Errors
-///
-/// Where it can't say that; want of memory.
+/// *Errors:* if it can't say that; lack of memory.
 fn set_like(alloc: Global, source: &Pps, like: &Frame<'_>, merged: bool) -> Result<Pps, LineFault>
     requires { AnswersLayout like.now.sps.now like.now.pps.now (Ok like.now.layout) }
 {
@@ -273,7 +261,7 @@ fn write_set_like(
     write_set(text, alloc, &set)
 }
 
-/// The same, of the set of an RBSP.
+/// Appends the same, for the set of an RBSP.
 fn write_source(
     text: &mut String,
     alloc: Global,
@@ -288,7 +276,7 @@ fn write_source(
     write_set_like(text, alloc, &source, like, merged)
 }
 
-/// The same, of these others.
+/// Appends the same, for these others.
 fn write_like(
     text: &mut String,
     alloc: Global,
@@ -302,12 +290,10 @@ fn write_like(
     write_source(text, alloc, source, &like, merged)
 }
 
-/// Appends what is written of a PPS that is rewritten so that it says what that of others says, which are an SPS and a PPS; for a
-/// frame of several sources, or for a region.
+/// Appends what is written of a PPS that is rewritten to say what that of others says, which are an SPS and a PPS; for a frame of several
+/// sources, or for a region.
 ///
-/// # Errors
-///
-/// The first refusal, of the others before itself; where it can't say that; want of memory.
+/// *Errors:* the first refusal, of the others before itself; if it can't say that; lack of memory.
 pub(crate) fn answer_reshaped_pps(
     text: &mut String,
     alloc: Global,

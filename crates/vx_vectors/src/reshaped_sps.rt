@@ -23,7 +23,7 @@ use vx_layout::{Rect, RectList};
 use vx_sps::{Sps, SpsShape, SubpicPlan, read_sps, reshape_sps, write_sps};
 use vx_table::quotient;
 
-/// A number of a byte.
+/// Returns a number as a byte.
 pub(crate) fn small(number: u32) -> Result<u8, LineFault> {
     u8::try_from(number).map_err(|_| LineFault::Shape)
 }
@@ -34,7 +34,7 @@ pub(crate) fn write_reshaped(text: &mut String, bytes: &[u8]) -> Result<(), Line
     Ok(write_bytes(text, bytes)?)
 }
 
-/// The subpictures of a set, in CTUs.
+/// Returns the subpictures of a set, in CTUs.
 fn rects_of(alloc: Global, sps: &Sps) -> Result<RectList, AllocError> {
     let mut rects = RectList::new(alloc);
     for i in 0..sps.subpics() {
@@ -43,7 +43,7 @@ fn rects_of(alloc: Global, sps: &Sps) -> Result<RectList, AllocError> {
     Ok(rects)
 }
 
-/// What a set says of its subpictures.
+/// Returns what a set says of its subpictures.
 fn plan_of(alloc: Global, sps: &Sps) -> Result<SubpicPlan, AllocError> {
     let numbers = sps.scope();
     if numbers.latest(sps_subpic_info_present_flag) == 0 {
@@ -59,11 +59,9 @@ fn plan_of(alloc: Global, sps: &Sps) -> Result<SubpicPlan, AllocError> {
     })
 }
 
-/// What a set says.
+/// Returns what a set says.
 ///
-/// # Errors
-///
-/// Where no set can say it; want of memory.
+/// *Errors:* if no set can say it; lack of memory.
 fn shape_of(alloc: Global, sps: &Sps) -> Result<SpsShape, LineFault> {
     let numbers = sps.scope();
     Ok(SpsShape {
@@ -86,21 +84,21 @@ fn shape_of(alloc: Global, sps: &Sps) -> Result<SpsShape, LineFault> {
     })
 }
 
-/// Whether these have codes of ue(v).
+/// Returns whether these have codes of ue(v).
 fn have_codes(numbers: &[u32]) -> bool
     ensures { OnTrue result (All IsCodeNumber numbers.now) }
 {
     numbers.iter().all(|number| *number < u32::MAX)
 }
 
-/// Whether a picture can be so wide or high, in luma samples.
+/// Returns whether a picture can be this wide or high, in luma samples.
 fn is_size(size: u32) -> bool
     ensures { OnTrue result (IsSize size) }
 {
     0 < size && size <= 16384 && size % 8 == 0
 }
 
-/// Whether an id has so many bits, less 1.
+/// Returns whether an id has this many bits, minus 1.
 fn is_id(id_len: u32, id: u32) -> bool
     requires { id_len ≤ 15 }
     ensures { OnTrue result (id < 2 ^ (id_len + 1)) }
@@ -108,7 +106,7 @@ fn is_id(id_len: u32, id: u32) -> bool
     id < 1 << (id_len + 1)
 }
 
-/// Whether the first begins and the last ends a picture of so many CTUs.
+/// Returns whether the first begins and the last ends a picture of this many CTUs.
 fn reach_borders(columns: u32, rows: u32, first: Rect, last: Rect) -> bool
     ensures { OnTrue result (Begins first × Ends columns rows last) }
 {
@@ -118,7 +116,7 @@ fn reach_borders(columns: u32, rows: u32, first: Rect, last: Rect) -> bool
     begins && ends
 }
 
-/// Whether rectangles are parts of a picture, from its first CTU on to its last.
+/// Returns whether rectangles are parts of a picture, from its first CTU on to its last.
 fn are_parts(columns: u32, rows: u32, rects: &RectList) -> bool
     ensures { OnTrue result (AreParts columns rows rects.now) }
 {
@@ -130,7 +128,7 @@ fn are_parts(columns: u32, rows: u32, rects: &RectList) -> bool
     parts && reach_borders(columns, rows, rects.item(0), rects.item(count - 1))
 }
 
-/// Whether a set can have such subpictures.
+/// Returns whether a set can have such subpictures.
 fn is_plan(columns: u32, rows: u32, plan: &SubpicPlan) -> bool
     ensures { OnTrue result (IsPlan columns rows plan.now) }
 {
@@ -145,7 +143,7 @@ fn is_plan(columns: u32, rows: u32, plan: &SubpicPlan) -> bool
     }
 }
 
-/// Whether a set whose CTUs have this size can have the numbers of a shape.
+/// Returns whether a set whose CTUs have this size can have the numbers of a shape.
 fn is_shape(shape: &SpsShape, ctb: u32) -> bool
     ensures { OnTrue result (IsShape ctb shape.now) }
 {
@@ -155,7 +153,7 @@ fn is_shape(shape: &SpsShape, ctb: u32) -> bool
     shape.id < 16 && sizes && codes && is_plan(columns, rows, &shape.subpics)
 }
 
-/// The bytes of a set that is rewritten for a shape.
+/// Returns the bytes of a set that is rewritten for a shape.
 fn rewritten(alloc: Global, sps: &Sps, shape: &SpsShape) -> Result<Vec<u8>, AllocError>
     requires { IsShape (ctb_size_of sps.now) shape.now }
 {
@@ -163,7 +161,7 @@ fn rewritten(alloc: Global, sps: &Sps, shape: &SpsShape) -> Result<Vec<u8>, Allo
     write_sps(alloc, &set)
 }
 
-/// Appends what is written of a set that is rewritten for a shape, where it can have that.
+/// Appends what is written of a set that is rewritten for a shape, if it can have that.
 fn write_rewritten(
     text: &mut String,
     alloc: Global,
@@ -177,7 +175,7 @@ fn write_rewritten(
     write_reshaped(text, bytes.as_slice())
 }
 
-/// The shape in which a set says what that of an RBSP says.
+/// Returns the shape in which a set says what that of an RBSP says.
 fn like_of(alloc: Global, like: &[u8]) -> Result<SpsShape, LineFault>
     requires { length like.now ≤ unit_limit }
 {
@@ -198,11 +196,9 @@ fn write_source(
     write_rewritten(text, alloc, &source, shape)
 }
 
-/// Appends what is written of an SPS that is rewritten so that it says what another one says.
+/// Appends what is written of an SPS that is rewritten to say what another one says.
 ///
-/// # Errors
-///
-/// The first refusal, of what it is to say before itself; where it can't say that; want of memory.
+/// *Errors:* the first refusal, of what it is to say before itself; if it can't say that; lack of memory.
 pub(crate) fn answer_reshaped_sps(
     text: &mut String,
     alloc: Global,

@@ -27,7 +27,7 @@ pub(crate) fn answer_vps(text: &mut String, alloc: Global, rbsp: &[u8]) -> Resul
     Ok(write_accepted(text, &items)?)
 }
 
-/// Appends what is read of an SPS, what it tells, and what is written of it.
+/// Appends what is read of an SPS, what it means, and what is written of it.
 pub(crate) fn answer_sps(text: &mut String, alloc: Global, rbsp: &[u8]) -> Result<(), LineFault>
     requires { length rbsp.now ≤ unit_limit }
 {
@@ -35,7 +35,7 @@ pub(crate) fn answer_sps(text: &mut String, alloc: Global, rbsp: &[u8]) -> Resul
     write_sps_told(text, alloc, &sps, rbsp)
 }
 
-/// Appends the items of an SPS, what it tells, and what is written of it.
+/// Appends the items of an SPS, what it means, and what is written of it.
 fn write_sps_told(
     text: &mut String,
     alloc: Global,
@@ -58,7 +58,7 @@ pub(crate) fn write_same_sps(
     write_same(text, written.as_slice(), rbsp)
 }
 
-/// Appends what is read of a PPS, what it tells, and what is written of it.
+/// Appends what is read of a PPS, what it means, and what is written of it.
 pub(crate) fn answer_pps(text: &mut String, alloc: Global, rbsp: &[u8]) -> Result<(), LineFault>
     requires { length rbsp.now ≤ unit_limit }
 {
@@ -66,7 +66,7 @@ pub(crate) fn answer_pps(text: &mut String, alloc: Global, rbsp: &[u8]) -> Resul
     write_pps_told(text, alloc, &pps, rbsp)
 }
 
-/// Appends the items of a PPS, what it tells, and what is written of it.
+/// Appends the items of a PPS, what it means, and what is written of it.
 fn write_pps_told(
     text: &mut String,
     alloc: Global,

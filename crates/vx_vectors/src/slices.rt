@@ -16,7 +16,7 @@ use vx_bits::BitReader;
 use vx_ph::{PictureHeader, read_ph};
 use vx_sh::{SliceHeader, SliceNumbers, read_can_be_written, read_sh, write_sh};
 
-/// Appends what is read of a slice header that takes so many bytes.
+/// Appends what is read of a slice header that takes this many bytes.
 pub(crate) fn write_slice(
     text: &mut String,
     slice: &SliceHeader,
@@ -30,7 +30,7 @@ pub(crate) fn write_slice(
     Ok(write_items(text, &slice.fields)?)
 }
 
-/// Appends whether what is written of a slice header is the front of this RBSP that it was read from, which has so many bytes.
+/// Appends whether what is written of a slice header is the prefix of this RBSP that it was read from, which has this many bytes.
 fn write_again(
     text: &mut String,
     alloc: Global,
@@ -47,7 +47,7 @@ fn write_again(
     write_same(text, written.as_slice(), rbsp.get(..size).unwrap_or(rbsp))
 }
 
-/// Appends a slice header, and what is written of it, where its picture header stands apart.
+/// Appends a slice header, and what is written of it, if its picture header is separate.
 fn write_apart(
     text: &mut String,
     alloc: Global,
@@ -68,8 +68,8 @@ fn write_apart(
     Ok(write_again(text, alloc, rbsp, numbers, slice, size)?)
 }
 
-/// Appends a slice header, and what is written of it, where its picture header stands inside, and is the one of the numbers: the
-/// bits behind the first give it, and it ends here.
+/// Appends a slice header, and what is written of it, if its picture header is inside, and is the one of the numbers: the bits after
+/// the first give it, and it ends here.
 fn write_inside(
     text: &mut String,
     alloc: Global,
@@ -94,7 +94,7 @@ fn write_inside(
     Ok(write_again(text, alloc, rbsp, numbers, slice, size)?)
 }
 
-/// Appends what is read of a slice header under these numbers, and what is written of it, where its picture header stands apart.
+/// Appends what is read of a slice header under these numbers, and what is written of it, if its picture header is separate.
 fn read_apart(
     text: &mut String,
     alloc: Global,
@@ -109,11 +109,9 @@ fn read_apart(
     write_apart(text, alloc, rbsp, numbers, &slice, size)
 }
 
-/// Appends what is read of a slice header, and what is written of it, where its picture header stands apart.
+/// Appends what is read of a slice header, and what is written of it, if its picture header is separate.
 ///
-/// # Errors
-///
-/// The first refusal; want of memory; where a picture header stands inside.
+/// *Errors:* the first refusal; lack of memory; a picture header that is inside.
 pub(crate) fn answer_apart(
     text: &mut String,
     alloc: Global,
@@ -127,7 +125,7 @@ pub(crate) fn answer_apart(
     read_apart(text, alloc, rbsp, &frame.at_slice(nal_type, header))
 }
 
-/// The bits behind the first of bytes.
+/// Returns the bits after the first of bytes.
 pub(crate) fn behind_first(bytes: &[u8]) -> BitReader<'_>
     requires few { length bytes.now ≤ unit_limit }
     requires some { 1 ≤ length bytes.now }
@@ -139,8 +137,8 @@ pub(crate) fn behind_first(bytes: &[u8]) -> BitReader<'_>
     bits
 }
 
-/// Appends what is read of a slice header under these numbers, and what is written of it, where the picture header of the numbers
-/// stands inside, and ends here.
+/// Appends what is read of a slice header under these numbers, and what is written of it, if the picture header of the numbers is
+/// inside, and ends here.
 fn read_inside(
     text: &mut String,
     alloc: Global,
@@ -157,11 +155,9 @@ fn read_inside(
     write_inside(text, alloc, rbsp, numbers, &slice, size, end)
 }
 
-/// Appends what is read of a slice header and of the picture header that stands inside, and what is written of both.
+/// Appends what is read of a slice header and of the picture header that is inside, and what is written of both.
 ///
-/// # Errors
-///
-/// The first refusal; want of memory; where no picture header stands inside.
+/// *Errors:* the first refusal; lack of memory; a picture header that isn't inside.
 pub(crate) fn answer_inside(
     text: &mut String,
     alloc: Global,

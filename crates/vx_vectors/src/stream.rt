@@ -33,7 +33,7 @@ pub(crate) struct Stream {
     header: Option<PictureHeader>,
 }
 
-/// The number of a field, and 0 where it is absent.
+/// Returns the number of a field, and 0 if it is absent.
 pub(crate) fn number(fields: &Fields, field: u16) -> u32 {
     natural(fields.first(field).unwrap_or(0))
 }
@@ -51,7 +51,7 @@ fn write_pps(text: &mut String, alloc: Global, pps: &Pps, rbsp: &[u8]) -> Result
 }
 
 impl Stream {
-    /// A stream without units.
+    /// Returns a stream without units.
     pub(crate) fn new(alloc: Global) -> Stream {
         Stream {
             bytes: Vec::new(alloc),
@@ -61,18 +61,16 @@ impl Stream {
         }
     }
 
-    /// Its bytes: each unit behind a start code.
+    /// Returns its bytes: each unit after a start code.
     pub(crate) fn bytes(&self) -> &[u8]
         ensures { result.now ≡ self.now.bytes.items }
     {
         self.bytes.as_slice()
     }
 
-    /// Appends the answer to the next unit.
+    /// Appends the result for the next unit.
     ///
-    /// # Errors
-    ///
-    /// Where it is refused, or no NAL unit, or refers to a set that hasn't come; want of memory.
+    /// *Errors:* a unit that is refused, or no NAL unit, or that refers to a set that hasn't come; lack of memory.
     pub(crate) fn answer_unit(
         &mut self,
         text: &mut String,
@@ -95,7 +93,7 @@ impl Stream {
         self.answer_rbsp(text, alloc, header.nal_type, rbsp)
     }
 
-    /// Appends the answer to the RBSP of a unit of a type.
+    /// Appends the result for the RBSP of a unit of a type.
     fn answer_rbsp(
         &mut self,
         text: &mut String,
@@ -117,7 +115,7 @@ impl Stream {
         }
     }
 
-    /// Appends the answer to a parameter set.
+    /// Appends the result for a parameter set.
     fn answer_set(
         &mut self,
         text: &mut String,
@@ -136,7 +134,7 @@ impl Stream {
         }
     }
 
-    /// Appends the answer to an SPS, which is stored.
+    /// Appends the result for an SPS, which is stored.
     fn answer_sps(&mut self, text: &mut String, alloc: Global, rbsp: &[u8]) -> Result<(), LineFault>
         requires { length rbsp.now ≤ unit_limit }
     {
@@ -152,7 +150,7 @@ impl Stream {
         Ok(())
     }
 
-    /// Appends the answer to a PPS, which is stored.
+    /// Appends the result for a PPS, which is stored.
     fn answer_pps(&mut self, text: &mut String, alloc: Global, rbsp: &[u8]) -> Result<(), LineFault>
         requires { length rbsp.now ≤ unit_limit }
     {
@@ -168,7 +166,7 @@ impl Stream {
         Ok(())
     }
 
-    /// The PPS of an id, and the SPS that it refers to.
+    /// Returns the PPS of an id, and the SPS that it refers to.
     pub(crate) fn sets(&self, pps_id: u32) -> Result<(&Sps, &Pps), LineFault> {
         let pps = self.pps.get(&pps_id).ok_or(LineFault::Missing)?;
         let sps_id = number(pps.fields(), pps_seq_parameter_set_id);
@@ -176,18 +174,18 @@ impl Stream {
         Ok((sps, pps))
     }
 
-    /// The picture header that came last.
+    /// Returns the picture header that came last.
     pub(crate) fn header(&self) -> Result<&PictureHeader, LineFault> {
         self.header.as_ref().ok_or(LineFault::Missing)
     }
 
-    /// What the PPS of an id and its SPS make up.
+    /// Returns what the PPS of an id and its SPS make up.
     pub(crate) fn frame(&self, alloc: Global, pps_id: u32) -> Result<Frame<'_>, LineFault> {
         let (sps, pps) = self.sets(pps_id)?;
         Ok(frame_of(alloc, sps, pps)?)
     }
 
-    /// Appends the answer to a picture header that is a unit, which is stored.
+    /// Appends the result for a picture header that is a unit, which is stored.
     fn answer_header(
         &mut self,
         text: &mut String,
@@ -202,7 +200,7 @@ impl Stream {
         Ok(())
     }
 
-    /// Appends the answer to a slice.
+    /// Appends the result for a slice.
     fn answer_slice(
         &self,
         text: &mut String,
@@ -220,7 +218,7 @@ impl Stream {
         answer_apart(text, alloc, nal_type, rbsp, &frame, header)
     }
 
-    /// Appends the answer to a slice whose header has the picture header inside.
+    /// Appends the result for a slice whose header has the picture header inside.
     fn answer_inside(
         &self,
         text: &mut String,

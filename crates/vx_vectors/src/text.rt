@@ -5,12 +5,12 @@ use vx_bits::{Fields, Item, Refusal};
 use vx_layout::{Bounds, Rect, RectList};
 use vx_rpl::RefEntry;
 
-/// What stands before the i-th of several things.
+/// Returns what comes before the i-th of several things.
 pub(crate) fn mark(i: usize, mark: &'static str) -> &'static str {
     if i == 0 { "" } else { mark }
 }
 
-/// Appends items, each behind a blank.
+/// Appends items, each after a blank.
 pub(crate) fn write_items(text: &mut String, fields: &Fields) -> Result<(), AllocError> {
     for i in 0..fields.len() {
         let Item { field, value } = fields.item(i);

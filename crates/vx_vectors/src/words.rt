@@ -7,7 +7,7 @@ use std::num::ParseIntError;
 use std::str::FromStr;
 use vx_bits::{Fields, Item, ReadError};
 
-/// A flag, `0` or `1`.
+/// Returns a flag, `0` or `1`.
 pub(crate) fn flag(word: &str) -> Result<bool, LineFault> {
     match word {
         "0" => Ok(false),
@@ -29,7 +29,7 @@ pub(crate) fn numbers<N: FromStr<Err = ParseIntError> + Drop>(
     Ok(numbers)
 }
 
-/// An item, as `301=2`.
+/// Returns an item, as `301=2`.
 pub(crate) fn item(word: &str) -> Result<Item, LineFault> {
     let (field, value) = word.split_once('=').ok_or(LineFault::Words)?;
     Ok(Item {
@@ -46,7 +46,7 @@ fn push_items(items: &mut Fields, word: &str) -> Result<(), LineFault> {
     Ok(())
 }
 
-/// Appends items so many times, as `301=1,304=0,305=1*64`, and once where no number follows.
+/// Appends items this many times, as `301=1,304=0,305=1*64`, and once if no number follows.
 fn push_all(items: &mut Fields, word: &str) -> Result<(), LineFault> {
     let (once, times) = word.split_once('*').unwrap_or((word, "1"));
     for _ in 0..times.parse::<u32>()? {

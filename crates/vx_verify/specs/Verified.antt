@@ -64,7 +64,7 @@ count_check finished round = record {
   tells = λ file m. m ≡ mismatches.Count file;
 }
 
--- C2: subpicture k doesn't stand at the place of source k.
+-- C2: subpicture k isn't at the place of source k.
 abbrev pub StandsAtSpot : Parts → ℕ → Spot → Type 0
 StandsAtSpot finished k spot = corner_in finished k ≡ spot
 

@@ -72,7 +72,7 @@ pub record IsUsedFor (corners : List Corner) (level : Option ℕ) (round : List 
   pub passes : IsVerdict (length corners) (rules_of corners round) None
   pub is : IsFrameFor corners level round f
 
--- Its corners and its level don't stand in it.
+-- Its corners and its level aren't part of it.
 abbrev pub IsSomeUsed : List Parts → Frame → Type 0
 IsSomeUsed round f = (corners : List Corner) × ((level : Option ℕ) × IsUsedFor corners level round f)
 

@@ -94,7 +94,7 @@ pub record IsInStep (i : Intaking) : Type 0 where
 
 -- ---- between its steps
 
--- Where it stands after these pictures, while it may yet wait for what is owed.
+-- The state after these pictures, while it may yet wait for what is owed.
 abbrev pub StepsBehind : Readers → Intaking → Handed → List Picture → State → Type 0
 StepsBehind R i h ps states.Waits = (g : IsGoing R i h ps) × AreSeenPictures R (seen_of g.given) ps
 StepsBehind R i h ps states.Picture = (p : Picture) × IsGoing R i h (p ∷ ps) × ShowsLatest (lent_by i.feed.assembler) (p ∷ ps)
