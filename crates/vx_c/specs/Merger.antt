@@ -62,7 +62,7 @@ status_by (ToWait k) = WAITS
 status_by ToEnd = ENDED
 status_by (ToStop stop) = status_of stop
 
--- which source waits, if one does
+-- The source that waits, if one does.
 abbrev pub source_by : Mixed → ℕ → ℕ
 source_by (ToWait k) before = k
 source_by mixed before = before

@@ -12,8 +12,8 @@ pub(crate) const MOST_READ: usize = 1 << 23;
 ///   what each returns, 0 for an alignment, and after `@` the place.
 /// - `code CALL .. END` writes `uN=V`, `ue=V`, `se=V`, `align` and `one`, and prints the bytes: END is `close`, or `bytes` for those of
 ///   an aligned writer.
-/// - `codes N` writes the numbers below N, each as ue(v) and as u(32), reads them again, and prints of the bytes, how many numbers are
-///   the same, and what comes after.
+/// - `codes N` writes the numbers below N, each as ue(v) and as u(32), and reads them again. It prints the bytes, how many numbers are the
+///   same, and whether a trailing comes after them.
 pub(crate) fn answer(text: &mut String, alloc: Global, verb: &str, words: &[&str]) -> Result<()> {
     match (verb, words) {
         ("bits", [bytes, calls @ ..]) => read_calls(text, alloc, bytes, calls),

@@ -12,8 +12,8 @@ use Rattle.vx_pic.specs.Parts.{Parts}
 abbrev pub is_kept : ℕ → Parts → Bool
 is_kept tid q = nat_le q.kind.temporal_id tid
 
--- that a kept picture breaks: it lacks the subpicture; that isn't treated as a picture; or in-loop filters cross its borders (7.4.3.4,
--- sps_subpic_treated_as_pic_flag, sps_loop_filter_across_subpic_enabled_flag)
+-- A kept picture breaks this: it lacks the subpicture; that isn't treated as a picture; or in-loop filters cross its borders (7.4.3.4,
+-- sps_subpic_treated_as_pic_flag, sps_loop_filter_across_subpic_enabled_flag).
 abbrev pub rule_of_kept : ℕ → Parts → Option ℕ
 rule_of_kept target q =
     cond (not (nat_lt target (subpics_of q.sps))) (Some rules.NO_SUCH_SUBPICTURE)

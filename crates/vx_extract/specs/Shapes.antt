@@ -22,7 +22,7 @@ use Rattle.vx_pic.specs.Parts.{Parts}
 
 -- ---- the subpicture (C.7)
 
--- its size in luma samples (C.7)
+-- The size of the subpicture in luma samples (C.7).
 abbrev pub width_in : Parts → ℕ → ℕ
 width_in q target =
     luma_size (rect_of q.sps target).x (rect_of q.sps target).w (ctb_size_of q.sps) (number q.pps pps.pps_pic_width_in_luma_samples)
@@ -31,7 +31,7 @@ abbrev pub height_in : Parts → ℕ → ℕ
 height_in q target =
     luma_size (rect_of q.sps target).y (rect_of q.sps target).h (ctb_size_of q.sps) (number q.pps pps.pps_pic_height_in_luma_samples)
 
--- its id (SubpicIdVal, 7.4.3.5)
+-- The id of the subpicture (SubpicIdVal, 7.4.3.5).
 abbrev pub id_in : Parts → ℕ → ℕ
 id_in q target = slice_index q.ids target
 
@@ -68,7 +68,7 @@ plan_of q target =
 abbrev pub level_of : List Item → Option ℕ → ℕ
 level_of source level = unwrap_or level (number source general_level_idc)
 
--- what the SPS says (C.7)
+-- The SPS says this (C.7).
 abbrev pub sps_shape : Parts → ℕ → Option ℕ → SpsShape
 sps_shape q target level = record {
   id = sps_id q.sps;

@@ -18,7 +18,7 @@ use Rattle.vx_extract.specs.Shapes.{sps_shape, pps_shape}
 
 -- ---- slices
 
--- those of the subpicture, in order (C.7)
+-- The slices of the subpicture, in order (C.7).
 abbrev pub parts_in : Parts → ℕ → List SlicePart
 parts_in q target = filter (λ s. s.header.subpic == target) q.slices
 

@@ -11,14 +11,14 @@ use Rattle.vx_pic.specs.Sets.{filter_items}
 
 -- ---- adaptive loop filters
 
--- those of a slice, in the order in which it names them: luma, chroma, Cb and Cr
+-- The bodies of a slice, in the order in which it names them: luma, chroma, Cb and Cr.
 abbrev pub bodies_in : Alf → List (List ℕ)
 bodies_in a = a.luma ++ (option_to_list a.chroma ++ (option_to_list a.cc_cb ++ option_to_list a.cc_cr))
 
 abbrev pub filters_of : Parts → SlicePart → List (List ℕ)
 filters_of q s = bodies_in (alf_of q (filter_items q.pps q.header.fields (read_of s.header)))
 
--- those of pictures, in the order of their slices
+-- The bodies of pictures, in the order of their slices.
 abbrev pub filters_in : Parts → List (List ℕ)
 filters_in q = flat_map (filters_of q) q.slices
 
@@ -37,7 +37,7 @@ with_bodies bodies (body ∷ more) = with_bodies (with_body bodies body) more
 abbrev pub once : List (List ℕ) → List (List ℕ)
 once bodies = with_bodies [] bodies
 
--- those of a round that are in force in slices, in the order of first use: by source, then by slice, then luma, chroma, Cb and Cr
+-- The bodies of a round that are in force in slices, in the order of first use: by source, then by slice, then luma, chroma, Cb and Cr.
 abbrev pub alf_bodies : List Parts → List (List ℕ)
 alf_bodies round = once (flat_map filters_in round)
 
@@ -57,6 +57,6 @@ lmcs_body q = named_body q aps.LMCS ph.ph_lmcs_aps_id q.header.fields
 abbrev pub scaling_body : Parts → Option (List ℕ)
 scaling_body q = named_body q aps.SCALING ph.ph_scaling_list_aps_id q.header.fields
 
--- ph_chroma_residual_scale_flag (7.4.3.8)
+-- The value of ph_chroma_residual_scale_flag (7.4.3.8).
 abbrev pub is_chroma_scaled : Parts → Bool
 is_chroma_scaled q = is_set (number q.header.fields ph.ph_chroma_residual_scale_flag)

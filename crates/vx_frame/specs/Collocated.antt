@@ -32,7 +32,7 @@ delta_from base (entry ∷ entries) = delta_from (base +ℤ delta_of entry) entr
 abbrev pub delta_to : List RefEntry → ℤ
 delta_to entries = delta_from (pos 0) entries
 
--- delta_poc_msb_cycle_lt (7.4.10) of an entry, 0 if it is absent.
+-- The value of delta_poc_msb_cycle_lt (7.4.10) of an entry, 0 if it is absent.
 abbrev pub cycles_of : RefEntry → ℕ
 cycles_of (Short abs sign) = 0
 cycles_of (Long lsb msb) = unwrap_or msb 0
@@ -78,6 +78,6 @@ collocated_of q h = told_at (collocated_list q h) (number_or 0 h.fields sh.sh_co
 abbrev pub collocated_by : Parts → SlicePart → List Collocated
 collocated_by q s = cond (may_name q && names_one s.header) (collocated_of q s.header ∷ []) []
 
--- those that slices of a picture name, in order (our own)
+-- The collocated pictures that slices of a picture name, in order (our own).
 abbrev pub collocated : Parts → List Collocated
 collocated q = flat_map (collocated_by q) q.slices

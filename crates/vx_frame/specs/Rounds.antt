@@ -36,10 +36,10 @@ UnlikeLowest has f round k =
     IsTrue (has (picture_at round k))
     × ((j : ℕ) × IsLowest (length round) (λ i. IsTrue (has (picture_at round i))) j × (f (picture_at round k) ≢ f (picture_at round j)))
 
--- not all of these are the first one of all
+-- Not all of these equal the first one of all.
 abbrev pub SomeUnlike : {A : Type 0} → List A → Option A → Type 0
 SomeUnlike xs first = ¬ AllByRecursion (λ x. first ≡ Some x) xs
 
--- not all of source k are the first one of the round, by source and then in order
+-- Not all of source k equal the first one of the round, by source and then in order.
 abbrev pub SomeUnlikeFirst : {A : Type 0} → (Parts → List A) → List Parts → ℕ → Type 0
 SomeUnlikeFirst f round k = SomeUnlike (f (picture_at round k)) (slice_get (flat_map f round) 0)

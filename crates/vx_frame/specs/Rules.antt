@@ -39,7 +39,7 @@ use Rattle.vx_frame.specs.Verdict.{Rule, IsVerdict}
 abbrev pub of_source : ℕ → (ℕ → Type 0) → Rule
 of_source code breaks = record { breaks = breaks; tells = λ k. Merge code k 0 }
 
--- that source, and the field in which it differs
+-- The source that breaks it, and the field in which it differs.
 abbrev pub of_field : ℕ → (ℕ → Type 0) → (ℕ → ℕ) → Rule
 of_field code breaks field = record { breaks = breaks; tells = λ k. Merge code k (field k) }
 

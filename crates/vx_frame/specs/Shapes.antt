@@ -44,7 +44,7 @@ numbers_in_round round of = map (λ q. number q.sps of) round
 
 -- ---- the SPS (our own choices)
 
--- for an edge of the frame, the offsets of the windows of the regions that touch it
+-- The offsets, for an edge of the frame, of the windows of the regions that touch it.
 abbrev pub offsets_at : (Placed → Bool) → ℕ → List Placed → List Parts → List ℕ
 offsets_at touches of placed round = map (λ r. number r.1.sps of) (filter (λ r. touches r.0) (zip placed round))
 
@@ -70,7 +70,7 @@ frame_dpb round =
 abbrev pub frame_level : List Parts → Option ℕ → ℕ
 frame_level round level = unwrap_or level (greatest (numbers_in_round round general_level_idc))
 
--- its id is 0; each region is a subpicture
+-- What the SPS says: its id is 0, and each region is a subpicture.
 abbrev pub frame_sps_shape : List Corner → List Parts → Option ℕ → SpsShape
 frame_sps_shape corners round level = record {
   id = 0;
@@ -89,7 +89,8 @@ pub record IsFrame (corners : List Corner) (round : List Parts) (frame : Numbers
   pub lines : HaveLines frame.columns frame.rows (corners_in corners round) (layouts_in round)
   pub pictures : frame ≡ frame_of frame.columns frame.rows (corners_in corners round) (layouts_in round)
 
--- of this id: loop filters cross the borders of tiles, and of slices, as in the lowest picture with several; the QP is source 0's
+-- What the PPS with this id says: loop filters cross the borders of tiles, and of slices, as in the lowest picture with several; the QP
+-- is source 0's.
 abbrev pub frame_pps_shape : List Corner → List Parts → Numbers → ℕ → PpsShape
 frame_pps_shape corners round frame id = record {
   id = id;

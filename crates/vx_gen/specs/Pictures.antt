@@ -80,7 +80,7 @@ generated_pps k =
     ∷ zeros (pps.pps_cu_qp_delta_enabled_flag ∷ pps.pps_chroma_tool_offsets_present_flag ∷ pps.pps_deblocking_filter_control_present_flag
     ∷ pps.pps_picture_header_extension_present_flag ∷ pps.pps_slice_header_extension_present_flag ∷ pps.pps_extension_flag ∷ [])
 
--- both, with their units
+-- Both sets, with their units.
 abbrev pub sets : ℕ → List SetUnit
 sets k = record { unit = units.sps; set = an_sps generated_sps } ∷ record { unit = units.pps k; set = a_pps (generated_pps k) } ∷ []
 

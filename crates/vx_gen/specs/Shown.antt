@@ -5,7 +5,7 @@ use Rattle.vx_pic.specs.Parts.{Parts}
 use Rattle.vx_gen.specs.Pictures.{generated_header, kind, layout, generated_pps, generated_slice, generated_sps}
 use Rattle.vx_gen.specs.Units.{slice}
 
--- both reference picture lists are empty
+-- Both reference picture lists are empty.
 abbrev pub no_lists : RefLists
 no_lists = record { first = []; second = [] }
 

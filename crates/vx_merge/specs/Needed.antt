@@ -14,7 +14,8 @@ use Rattle.vx_merge.specs.Slots.{TakeSlots}
 
 -- ---- bodies of adaptation parameter sets
 
--- of LMCS and of scaling lists: of the lowest source whose picture header has them; of adaptive loop filters by `alf_bodies`
+-- The bodies of LMCS and of scaling lists: those of the lowest source whose picture header has them. The bodies of adaptive loop filters
+-- are `alf_bodies`.
 abbrev pub lmcs_bodies : List Parts → List (List ℕ)
 lmcs_bodies round = option_to_list (of_lowest has_lmcs lmcs_body None round)
 
@@ -49,7 +50,7 @@ id_of_body _ _ body = 0
 
 -- ---- the sets
 
--- those of a type, by rising id
+-- The sets of a type, by rising id.
 abbrev pub sets_with_id : ℕ → List (List ℕ) → List ℕ → ℕ → List Set
 sets_with_id kind bodies ids id = map (λ p. an_aps (record { kind = kind; id = id; body = p.0 })) (filter (λ p. p.1 == id) (zip bodies ids))
 

@@ -87,7 +87,7 @@ WhereTold R source P =
     (b : List ℕ) (ps : List Picture) (ending : Option Ending)
     → source.bytes source.old ≡ Some b → AreSourcePictures R b ps ending → P ps ending
 
--- these are the first of them
+-- These are the first of the pictures.
 abbrev pub BeginsWithPictures : List Picture → List Picture → Type 0
 BeginsWithPictures ps first = (later : List Picture) × (ps ≡ later ++ first)
 

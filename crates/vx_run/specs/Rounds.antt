@@ -27,7 +27,7 @@ pub record Stream : Type 0 where
   pub pictures : List Picture
   pub ending : Option Ending
 
--- its picture n, from 0
+-- Picture n of the stream, from 0.
 abbrev pub picture_in : ℕ → Stream → Option Picture
 picture_in n s = slice_get (reverse s.pictures) n
 
@@ -100,7 +100,7 @@ pub record AreTold {A : Type 0} (R : Readers) (sources : Sources A) (ss : List S
 abbrev pub WhereAllTold : {A : Type 0} → Readers → Sources A → (List Stream → Type 0) → Type 0
 WhereAllTold R sources P = (ss : List Stream) → AreTold R sources ss → P ss
 
--- of each source
+-- This holds of each source.
 abbrev pub OfEachSource : {A : Type 0} → Sources A → (Change (Option A) → Type 0) → Type 0
 OfEachSource sources P = (k : ℕ) → k < length sources.old → P (source_at sources k)
 

@@ -31,7 +31,7 @@ TellsTrial R seed sources pictures out (Ok _) = (t : Tally) × IsTally R seed so
 TellsTrial R seed sources pictures out (Err WriteFault) = (t : Tally) × IsTally R seed sources pictures t × GainsFront out (trial_text t)
 TellsTrial R seed sources pictures out (Err _) = Unit {0}
 
--- that is so by the readers of H.266
+-- That holds for the readers of H.266.
 pub record Trials {K : Type 0} (seed sources pictures : ℕ) (out : Change K) (outcome : Outcome) : Type 0 where
   pub ends : EndsTrial out outcome
   pub tells : (R : Readers) → AreOfH266 R → TellsTrial R seed sources pictures out outcome

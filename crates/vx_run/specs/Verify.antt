@@ -79,6 +79,6 @@ VerifiesBy R spots sources out (Err WriteFault) =
 VerifiesBy R spots sources out (Err NoMemory) = OfEachSource sources IsRead × IsUntouched out
 VerifiesBy R spots sources out (Err NotUnderstood) = ⊥
 
--- of as many sources as there may be, the finished stream aside
+-- It is so of as many sources as there may be, besides the finished stream.
 abbrev pub Verifies : {A K : Type 0} → List Spot → Sources A → Change K → Outcome → Type 0
 Verifies spots sources out outcome = OfAtMost (length spots) sources out outcome (λ R. VerifiesBy R spots sources out outcome)

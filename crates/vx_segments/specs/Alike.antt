@@ -7,11 +7,11 @@ use Rattle.vx_aps.specs.declared.aps.TheConstants as aps
 use Rattle.vx_pic.specs.Parts.{Parts, SlicePart, aps_at, read_of}
 use Rattle.vx_pic.specs.Sets.{Slot, filter_items, named, named_filters}
 
--- both have the same adaptation parameter sets of these types and ids
+-- Both have the same adaptation parameter sets of these types and ids.
 abbrev pub HaveAlike : Parts → Parts → List Slot → Type 0
 HaveAlike p q slots = AllByRecursion (λ slot. aps_at p.bodies slot.kind slot.id ≡ aps_at q.bodies slot.kind slot.id) slots
 
--- those that the picture header names for LMCS and for scaling lists; and the filters of a slice
+-- The adaptation parameter sets that the picture header names for LMCS and for scaling lists; and the filters of a slice.
 abbrev pub header_names : Parts → List Slot
 header_names p = named aps.LMCS ph.ph_lmcs_aps_id p.header.fields ++ named aps.SCALING ph.ph_scaling_list_aps_id p.header.fields
 

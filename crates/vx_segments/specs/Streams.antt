@@ -18,7 +18,7 @@ use Rattle.vx_segments.specs.Alike.{IsReadAlike}
 abbrev pub HaveNoEnd : List (List ℕ) → Type 0
 HaveNoEnd units = AllByRecursion (λ u. class_of (nal_unit_type u) ≢ end_unit) units
 
--- as callers see them, each of these pictures is one of those, read alike
+-- As callers see them, each of these pictures is one of those, read alike.
 abbrev pub PicturesAlike : List Picture → List Picture → Type 0
 PicturesAlike ps qs = AllZip (λ p q. IsReadAlike (parts_of p) (parts_of q)) ps qs
 

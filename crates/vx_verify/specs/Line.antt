@@ -21,7 +21,7 @@ input_text picture file slice d = concat
     ∷ codes " part " ∷ decimal d.part
     ∷ codes " field " ∷ decimal d.field ∷ codes "\n" ∷ [])
 
--- by the codes C1 to C5
+-- The line, by the codes C1 to C5.
 abbrev pub mismatch_text : Mismatch → ℕ → List ℕ
 mismatch_text (Count file) picture = file_text 1 picture file
 mismatch_text (Rect file) picture = file_text 2 picture file

@@ -88,7 +88,7 @@ slice_check finished round = record {
 abbrev pub HasInputs : Parts → ℕ → Parts → Type 0
 HasInputs finished k q = inputs_in finished k ≡ inputs_in q 0
 
--- up to slice i both have the same inputs, and there they differ first in this
+-- Up to slice i both have the same inputs, and there they differ first in this.
 pub record DiffersAt (inputs others : List Input) (i : ℕ) (d : Difference) : Type 0 where
   pub before : take i inputs ≡ take i others
   pub input : Input

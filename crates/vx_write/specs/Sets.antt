@@ -14,7 +14,7 @@ set_lent (needed.Sps s) = an_sps s.now
 set_lent (needed.Pps p) = a_pps p.now
 set_lent (needed.Aps a) = an_aps (record { kind = a.kind; id = a.id; body = a.body.now })
 
--- its id
+-- The id of a set.
 abbrev pub id_of : Set → ℕ
 id_of (an_sps items) = sps_id items
 id_of (a_pps items) = pps_id items

@@ -19,7 +19,7 @@ held_serves t s (x ∷ more) = cond (same_slot x.set s) (same_set x.set s && nat
 abbrev pub AnswerAlike : List Sent → List Sent → Type 0
 AnswerAlike slots others = (t : ℕ) (s : Set) → held_serves t s slots ≡ held_serves t s others
 
--- they are the last ones of these units
+-- They are the last ones of these units.
 abbrev pub AreLastOf : List SetUnit → List Sent → Type 0
 AreLastOf history slots = (t : ℕ) (s : Set) → held_serves t s slots ≡ serves t s (last_of s history)
 

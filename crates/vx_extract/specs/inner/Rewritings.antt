@@ -7,7 +7,7 @@ use Rattle.vx_pic.specs.Parts.{Parts}
 use Rattle.vx_extract.specs.declared.rewritten.Rewritten.{Rewritten}
 use Rattle.vx_extract.specs.Shapes.{sps_shape, pps_shape}
 
--- they are those of this picture
+-- They are the sets that are sent for this picture.
 pub record IsRewritingOf (target : ℕ) (level : Option ℕ) (q : Parts) (made : Rewritten) : Type 0 where
   pub source_sps : made.source.sps ≡ q.sps
   pub source_pps : made.source.pps ≡ q.pps
@@ -16,7 +16,7 @@ pub record IsRewritingOf (target : ℕ) (level : Option ℕ) (q : Parts) (made :
   pub sps : sps_reshaped.IsReshapedSps q.sps (sps_shape q target level) made.sps
   pub pps : pps_reshaped.IsReshapedPps q.pps (pps_shape q target) made.pps
 
--- they are those of some picture
+-- They are the sets that are sent for some picture.
 pub record IsRewriting (target : ℕ) (level : Option ℕ) (made : Rewritten) : Type 0 where
   pub picture : Parts
   pub is : IsRewritingOf target level picture made

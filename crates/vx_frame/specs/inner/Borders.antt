@@ -10,7 +10,7 @@ abbrev pub has_several : Pieces → Parts → Bool
 has_several Tiles = has_tiles
 has_several Slices = has_slices
 
--- in-loop filters cross their borders
+-- In-loop filters cross their borders.
 abbrev pub crosses : Pieces → Parts → Bool
 crosses Tiles = crosses_tiles
 crosses Slices = crosses_slices

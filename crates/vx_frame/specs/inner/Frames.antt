@@ -34,7 +34,7 @@ sets_in x = record no_picture { sps = x.sps; pps = x.pps; layout = numbers_in x.
 abbrev pub HaveSameSets : List Parts → List Parts → Type 0
 HaveSameSets kept round = map sets_of kept ≡ map sets_of round
 
--- these are the sets of a round
+-- These are the sets of a round.
 abbrev pub AreSetsOf : List Parts → List SetItems → Type 0
 AreSetsOf round sources = map sets_in sources ≡ map sets_of round
 

@@ -17,7 +17,7 @@ pub record AreFilters (round : List Parts) (f : RoundFilters) : Type 0 where
   pub too_many : IsLowestAnswer (length round) (too_many_filters round).breaks f.too_many
   pub all : f.too_many ≡ None → map (λ b. b.now) f.bodies ≡ alf_bodies round
 
--- these, and the lowest sources whose headers have LMCS and scaling lists
+-- These bodies, and the lowest sources whose headers have LMCS and scaling lists.
 pub record AreGathered (round : List Parts) (b : RoundBodies) : Type 0 where
   pub filters : AreFilters round b.filters
   pub lmcs : IsLowestWith has_lmcs round b.lmcs

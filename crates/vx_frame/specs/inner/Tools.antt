@@ -7,7 +7,7 @@ use Rattle.vx_frame.specs.declared.sets.SetKind.TheVariants.{Sps, Pps}
 use Rattle.vx_frame.specs.Rules.{kept_pps, kept_sps, pps_field, pps_tools, sps_field, sps_tools}
 use Rattle.vx_frame.specs.Verdict.{Rule}
 
--- its kept fields
+-- Its kept fields.
 abbrev pub kept_in : SetKind → Parts → List Item
 kept_in Sps = kept_sps
 kept_in Pps = kept_pps

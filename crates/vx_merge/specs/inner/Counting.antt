@@ -29,7 +29,7 @@ abbrev pub WritesAs : (joins : Bool) → List Parts → List Plan → Merging �
 WritesAs true = WritesJoined
 WritesAs false = WritesOneRound
 
--- as of a round that is joined, its pictures being marked so, or of any
+-- As for a round that is joined, its pictures being marked so, or for any.
 abbrev pub WritesWhere : (joins : Bool) → List Parts → List Plan → Merging → Option (List ℕ) → Option (List ℕ) → ℕ → ℕ → Result (Unit {0}) WriteError → Type 0
 WritesWhere true round = WritesJoined (map after_end_of_sequence round)
 WritesWhere false round = WritesOneRound round

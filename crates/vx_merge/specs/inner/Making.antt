@@ -34,7 +34,7 @@ with_payloads (front ∷ fronts) (payload ∷ payloads) = (front ++ payload) ∷
 abbrev pub slice_units : RoundUnits → List (List ℕ)
 slice_units m = with_payloads (map (λ u. u.items) m.fronts.items) (map (λ b. b.now) m.payloads)
 
--- as many fronts as payloads
+-- There are as many slices as payloads.
 abbrev pub HasPayloads : RoundUnits → Type 0
 HasPayloads m = length m.fronts.items ≡ length m.payloads
 

@@ -7,7 +7,7 @@ use Rattle.vx_frame.specs.inner.Frames.{IsKeptFrame}
 use Rattle.vx_merge.specs.declared.progress.Progress.{Progress}
 use Rattle.vx_merge.specs.Merging.{Merging}
 
--- these are the last sets of some that were sent
+-- These are the last sets of some that were sent.
 abbrev pub HasHistory : List Sent → Type 0
 HasHistory slots = (history : List SetUnit) × AreLastOf history slots
 

@@ -43,11 +43,11 @@ pub record IsReady (level : Option ℕ) (round : List Parts) (frame : Numbers) (
   pub shapes : HasShapes corners round frame
   pub needed : AreNeeded corners level round frame sent n
 
--- of some such round
+-- This is so for some such round.
 abbrev pub IsSomeReady : List Parts → RoundSets → Type 0
 IsSomeReady round n =
     (level : Option ℕ) × ((frame : Numbers) × ((sent : List SetUnit) × IsReady level round frame sent n))
 
--- of some such round, with this layout as the frame
+-- This is so for some such round, with this layout as the frame.
 abbrev pub IsReadyAt : List Parts → RoundSets → Numbers → Type 0
 IsReadyAt round n frame = (level : Option ℕ) × ((sent : List SetUnit) × IsReady level round frame sent n)

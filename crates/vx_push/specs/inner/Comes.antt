@@ -53,7 +53,7 @@ pub record IsMore (h more : Handed) : Type 0 where
   pub bytes : more.bytes ≡ h.bytes ++ piece
   pub all : h.all ≡ true → (more.all ≡ true) × (piece ≡ [])
 
--- its feed was given these bytes, and took units of these pictures
+-- Its feed was given these bytes, and took the units of these pictures.
 pub record HasTaken (R : Readers) (f : Feeding) (g : List ℕ) (ps : List Picture) : Type 0 where
   pub places : List UnitPlace
   pub before : List Reading
@@ -124,7 +124,7 @@ SeeksTo R g ps f states.Ended = HasTaken R f g ps × ArePictures R (seen_of g) t
 SeeksTo R g ps f (states.Refused r n) = IsStopped R f g ps r n
 SeeksTo R g ps f states.NoMemory = Unit {0}
 
--- or a unit was taken that completes no picture
+-- The state after a unit, or a unit was taken that completes no picture.
 abbrev pub StepsTo : Readers → List ℕ → List Picture → Feeding → Option State → Type 0
 StepsTo R g ps f None = HasTaken R f g ps
 StepsTo R g ps f (Some state) = SeeksTo R g ps f state

@@ -64,7 +64,7 @@ pub record HaltsFirst (intakes : List Intaking) (answer : Mixed) : Type 0 where
   pub marks : List Bool
   pub before : AreMarked intakes marks k
 
--- as they are all marked
+-- The states of the intakes, as they are all marked.
 pub record AreSeen (intakes : List Intaking) (marks : List Bool) : Type 0 where
   pub count : length marks ≡ length intakes
   pub marked : AreMarked intakes marks (length intakes)

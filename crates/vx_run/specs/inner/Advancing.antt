@@ -116,7 +116,7 @@ pub record AllTake {A : Type 0} (R : Readers) (sources : Sources A) (feeds : Lis
   pub rounds : OfAll (λ k ps. length ps ≡ n) taken
   pub each : OfFed (λ k f ps. TakesOne R (source_at sources k) f ps) feeds taken
 
--- or all have ended
+-- All have ended.
 pub record AllEnd {A : Type 0} (R : Readers) (sources : Sources A) (taken : List (List Picture)) (n : ℕ) : Type 0 where
   pub taken_count : length taken ≡ length sources.old
   pub rounds : OfAll (λ k ps. length ps ≡ n) taken

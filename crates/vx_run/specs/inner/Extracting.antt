@@ -29,7 +29,7 @@ use Rattle.vx_run.specs.ReadAgain.{IsReadAgain}
 use Rattle.vx_run.specs.Extract.{BreakNoRule, ExtractsBy, IsExtractable, RefusesExtraction, HasSeen, WhereTold}
 use Rattle.vx_run.specs.inner.Stopping.{ComesOf}
 
--- these pictures of a source were taken, the latest first
+-- These pictures of a source were taken, the latest first.
 pub record HasTaken {A : Type 0} (R : Readers) (source : Change A) (f : Feeding) (ps : List Picture) : Type 0 where
   pub given : List ℕ
   pub units : List UnitPlace
@@ -41,7 +41,7 @@ pub record HasTaken {A : Type 0} (R : Readers) (source : Change A) (f : Feeding)
   pub done : pictures readings ≡ ps
   pub ended : EndsAtEnd f (source.bytes source.new)
 
--- and one more, which the last unit completed
+-- One more was taken, which the last unit completed.
 pub record HasTakenOne {A : Type 0} (R : Readers) (source : Change A) (f : Feeding) (ps : List Picture) : Type 0 where
   pub picture : Picture
   pub taken : HasTaken R source f (picture ∷ ps)
@@ -72,7 +72,7 @@ ChecksOne q x n (Ok _) = refusal_of x.target x.tid q ≡ None
 ChecksOne q x n (Err (Refused r place)) = (refusal_of x.target x.tid q ≡ Some r) × (place ≡ places.Picture n)
 ChecksOne q x n (Err _) = ⊥
 
--- of the picture that was taken last, and whether it is kept
+-- The check of the picture that was taken last, and whether it is kept.
 abbrev pub ChecksLatest : (tid : ℕ) → Parts → Extracting → ℕ → Result Bool Stop → Type 0
 ChecksLatest tid q x n (Ok kept) = ChecksOne q x n (Ok tt) × (kept ≡ nat_le q.kind.temporal_id tid)
 ChecksLatest tid q x n (Err stop) = ChecksOne q x n (Err stop)

@@ -28,7 +28,7 @@ abbrev pub Leaves : {K : Type 0} → Work → Change K → List Plan → Type 0
 Leaves Check out done = IsUntouched out
 Leaves Write out done = Gains out (bytes_of done)
 
--- and that no write failed
+-- A check didn't touch `out`; a written round had no failed write.
 abbrev pub Keeps : {K : Type 0} → Work → Change K → Type 0
 Keeps Check out = IsUntouched out
 Keeps Write out = HasNoFault out

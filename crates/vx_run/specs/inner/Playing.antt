@@ -102,7 +102,7 @@ pub record IsCut {A : Type 0} (R : Readers) (sources : Sources A) (js : List ℕ
   pub told : WhereTold R (source_at sources j) (λ qs e. (qs ≡ others) × (e ≡ Some (record { units = units; refusal = r })))
   pub is : place ≡ places.Unit j units
 
--- or a read of it failed.
+-- A read of file j failed.
 pub record IsLost {A : Type 0} (R : Readers) (sources : Sources A) (js : List ℕ) (passed : List (List Picture)) (own : List Picture) (j : ℕ)
     : Type 0 where
   pub more : List (List Picture)
@@ -175,7 +175,7 @@ AdvancesRegions R sources s s' feeds ended passed own n (Err stop) =
     StopsAt R sources s s' feeds ended passed own stop
     ⊎ (WentOn R sources s s' feeds ended passed own (length feeds) (length feeds) × GoesBy length_refused ended n (Err stop))
 
--- of a schedule: its files stay, and how many regions there are
+-- A schedule keeps its files, and the number of regions.
 pub record SameFiles (s s' : Scheduled) : Type 0 where
   pub regions : s'.regions ≡ s.regions
   pub last : s'.last ≡ s.last

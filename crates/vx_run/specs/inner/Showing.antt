@@ -87,7 +87,7 @@ pub record GathersOne (R : Readers) (T : Teller) (g : List ℕ) (units : List Un
   pub lines : new ≡ old ++ told_lines T (seen_of g) place reading before
   pub count : n ≡ length (pictures (reading ∷ before))
 
--- they were, or why there are none
+-- The lines of the next unit were gathered, or this is why there are none.
 abbrev pub GathersNext : Readers → Teller → List ℕ → List UnitPlace → List Reading → Feeding → List ℕ → List ℕ → Result (Option ℕ) Stop
     → Type 0
 GathersNext R T g units before f old new (Ok (Some n)) = GathersOne R T g units before f old new n
@@ -106,7 +106,7 @@ pub record Gathers (R : Readers) (T : Teller) (g : List ℕ) (units : List UnitP
   pub lines : new ≡ old ++ (lines_behind R T (seen_of g) before later ++ told)
   pub ends : EndsGathering R T f g (units ++ later) after told result
 
--- so far
+-- The lines gathered so far.
 pub record HasGathered (R : Readers) (T : Teller) (g : List ℕ) (units : List UnitPlace) (before : List Reading) (f : Feeding)
     (old new : List ℕ) (n : ℕ) : Type 0 where
   pub later : List UnitPlace

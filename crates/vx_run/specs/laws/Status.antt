@@ -45,7 +45,7 @@ TooManyAreRefused A K E =
 abbrev pub IsWritable : List Corner → Option ℕ → List Stream → Type 0
 IsWritable corners level ss = (done : List Plan) × EndsWritten corners level ss done (Ok tt)
 
--- and played
+-- All rounds can be played.
 abbrev pub IsPlayable : List Corner → Option ℕ → List ℕ → List Stream → Type 0
 IsPlayable corners level regions files = (done : List Plan) × EndsPlayed corners level regions files done (Ok tt)
 
@@ -59,7 +59,7 @@ pub record IsZeroWhere (P : Type 0) (status : ℕ) : Type 0 where
   pub done : (status ≡ 0) ↔ P
   pub refused : (status ≡ 1) ↔ ¬ P
 
--- by the readers of H.266
+-- This holds for the readers of H.266.
 abbrev pub ByReaders : (Readers → Type 0) → Type 0
 ByReaders P = (R : Readers) → AreOfH266 R → P R
 
