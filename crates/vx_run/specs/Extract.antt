@@ -162,7 +162,7 @@ ok_text n = concat (codes "ok pictures " ∷ decimal n ∷ codes "\n" ∷ [])
 abbrev pub ok_line : Task → List Picture → List ℕ
 ok_line t ps = ok_text (length (at_most t.tid ps))
 
--- What `check extract` did to them: it reports what `extract` would do, and writes only that line.
+-- What `check extract` did to its source and to `out`, by its outcome. It reports what `extract` would do, and writes only that line.
 abbrev pub ChecksBy : {A K : Type 0} → Readers → Task → Change A → Change K → Outcome → Type 0
 ChecksBy R t source out (Ok _) =
     HasNoFault source × HasNoFault out × GivesFront source × IsAtEnd (source.bytes source.new)

@@ -113,10 +113,10 @@ pub record GainsInto {K : Type 0} (out : Change K) (done next : List ℕ) : Type
 abbrev pub GainsMerge : {K : Type 0} → Readers → List Corner → List (List Picture) → List Plan → Change K → Type 0
 GainsMerge R corners sources done out = Gains out (bytes_of done) × IsMergedAgain R corners sources (bytes_of done)
 
--- What `merge` did to them. It writes all rounds before it ends, and they are read again: with status 0 as the merge of all pictures of
--- the sources, and otherwise of their first ones. After a failed read of source k it has written the rounds before round n, and n
--- pictures of that source are seen. After a failed write it has written those before a round, and a prefix of that round. After lack of
--- memory it has written the first ones.
+-- What `merge` did to its sources and to `out`, by its outcome. It writes all rounds before it ends, and they are read again: with status
+-- 0 as the merge of all pictures of the sources, and otherwise of their first ones. After a failed read of source k it has written the
+-- rounds before round n, and n pictures of that source are seen. After a failed write it has written those before a round, and a prefix
+-- of that round. After lack of memory it has written the first ones.
 abbrev pub MergesBy : {A K : Type 0} → Readers → List Corner → Option ℕ → Sources A → Change K → Outcome → Type 0
 MergesBy R corners level sources out (Ok _) =
     OfEachSource sources IsReadOut × HasNoFault out

@@ -11,7 +11,7 @@ use Rattle.vx_run.specs.Rounds.{Stream}
 abbrev pub IsToldBy : Readers → Stream → Type 0
 IsToldBy R s = (b : List ℕ) × AreSourcePictures R b s.pictures s.ending
 
--- Its first n pictures, the latest first.
+-- The first n pictures of a stream, the latest first.
 abbrev pub first_pictures : ℕ → Stream → List Picture
 first_pictures n s = reverse (take n (reverse s.pictures))
 

@@ -264,8 +264,8 @@ too_many_files = Err (Refused (Limit TOO_MANY_FILES) places.Words)
 abbrev pub IsLeft : {A K : Type 0} → Sources A → Change K → Outcome → Outcome → Type 0
 IsLeft sources out outcome limit = ((outcome ≡ limit) ⊎ (outcome ≡ Err NoMemory)) × AreUntouched sources × IsUntouched out
 
--- There are more regions than there may be sources; or otherwise more files than there may be; or otherwise it is so by the readers of
--- H.266.
+-- If there are more regions than there may be sources, or more files than there may be, the command is left undone. Otherwise it is so by
+-- the readers of H.266.
 pub record Plays {A K : Type 0} (corners : List Corner) (level : Option ℕ) (regions : List ℕ) (sources : Sources A) (out : Change K)
     (outcome : Outcome) : Type 0 where
   pub stop : IfErr outcome IsOfCommand
