@@ -20,7 +20,6 @@ use vx_io::{Source, SourceFailed};
 /// more than 2^23 bytes it holds only the last five, and the refusal that it would get so far. After `next` has
 /// returned `None`, all bytes except the last two have been searched, and after `make_room` it holds at most
 /// 2^23 + 2 bytes.
-#[derive(Drop)]
 pub struct Splitter {
     // The bytes held, and the place of the first of them in the stream.
     kept: ByteQueue,
@@ -38,6 +37,22 @@ pub struct Splitter {
     doomed: Option<Refusal>,
     all: bool,
     refused: Option<Refusal>,
+}
+
+impl Drop for Splitter {
+    fn drop(self) {
+        let Splitter {
+            kept: _,
+            base: _,
+            from: _,
+            start: _,
+            sought: _,
+            clear: _,
+            doomed: _,
+            all: _,
+            refused: _,
+        } = self;
+    }
 }
 
 impl Model for Splitter {

@@ -84,11 +84,20 @@ impl From<ReadFault> for TakeFault {
 ///
 /// Reads at most 2^40 + 1 bytes, and returns the units whose end is seen within the first 2^40; a longer source
 /// is refused (L3). Pass the same source to every call.
-#[derive(Drop)]
 pub struct UnitReader {
     splitter: Splitter,
     taken: u64,
     closed: Option<Closed>,
+}
+
+impl Drop for UnitReader {
+    fn drop(self) {
+        let UnitReader {
+            splitter: _,
+            taken: _,
+            closed: _,
+        } = self;
+    }
 }
 
 impl Model for UnitReader {

@@ -7,8 +7,6 @@
 mod files;
 mod open;
 mod opened;
-#[cfg(test)]
-mod tests;
 
 ghost use Rattle.std.specs.Prelude.{◌≡◌, ◌≢◌, ◌↔◌, IfOk, OnErr};
 ghost use Rattle.std.specs.IoError.{error_kind};

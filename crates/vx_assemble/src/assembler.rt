@@ -17,13 +17,23 @@ use vx_sps::Sps;
 /// It holds the sets in force, one picture of at most 2^25 bytes, and messages of at most 65,536 bytes each for that picture and
 /// for the next one. It stores at most 16 SPSs, 64 PPSs, 8 ALF, 4 LMCS and 8 scaling sets; the picture under way refers to at
 /// most as many of these last three. After a refusal or lack of memory it takes no more units.
-#[derive(Drop)]
 pub struct Assembler {
     alloc: Global,
     state: State,
     // The result for the last unit that was handed in.
     told: Accepted,
     first: Option<First>,
+}
+
+impl Drop for Assembler {
+    fn drop(self) {
+        let Assembler {
+            alloc: _,
+            state: _,
+            told: _,
+            first: _,
+        } = self;
+    }
 }
 
 impl Model for Assembler {

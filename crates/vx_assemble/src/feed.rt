@@ -28,7 +28,7 @@ use vx_pps::Pps;
 use vx_sps::Sps;
 
 /// What a feed has taken: a unit, or the end of the source.
-#[derive(Clone, Copy, Debug, PartialEq, Eq)]
+#[derive(Clone, Copy, PartialEq, Eq)]
 pub enum Taken {
     /// A NAL unit.
     Nal {
@@ -46,7 +46,7 @@ pub enum Taken {
 }
 
 /// The step to which a feed advanced: a picture, or the end.
-#[derive(Clone, Copy, Debug, PartialEq, Eq)]
+#[derive(Clone, Copy, PartialEq, Eq)]
 pub enum Step {
     /// A picture, with its last slice.
     Picture,
@@ -77,13 +77,23 @@ pub enum FeedFault {
 /// complete unit. Bytes can be handed in by `feed` instead. It holds at most 2^25 + 2^23 + 65,538 bytes of its source, in
 /// addition to stored sets and messages; a new feed holds none. After a refusal, a failed read or lack of memory every call
 /// returns `Stopped`.
-#[derive(Drop)]
 pub struct Feed {
     reader: UnitReader,
     assembler: Assembler,
     // The number of units taken.
     units: u64,
     first: Option<First>,
+}
+
+impl Drop for Feed {
+    fn drop(self) {
+        let Feed {
+            reader: _,
+            assembler: _,
+            units: _,
+            first: _,
+        } = self;
+    }
 }
 
 impl Model for Feed {

@@ -22,7 +22,6 @@ use vx_sps::Sps;
 use vx_table::Scope;
 
 /// The sets in force for a picture, and what both make up.
-#[derive(Drop)]
 pub(crate) struct InForce {
     /// The SPS.
     pub sps: Shared<Sps>,
@@ -36,6 +35,19 @@ pub(crate) struct InForce {
     pub slices: usize,
     /// The numbers of both sets, under which headers are read.
     pub scope: Shared<Scope>,
+}
+
+impl Drop for InForce {
+    fn drop(self) {
+        let InForce {
+            sps: _,
+            pps: _,
+            layout: _,
+            ids: _,
+            slices: _,
+            scope: _,
+        } = self;
+    }
 }
 
 /// Returns whether the pictures of both sets have the same size.

@@ -29,7 +29,6 @@ const SOURCE_TOO_LONG: Refusal = Refusal::Limit { code: LONG_SOURCE };
 /// A reader of bytes in memory, unit by unit, which lends each picture with its last slice. It holds a copy of the bytes.
 ///
 /// After a refusal or lack of memory every call of `advance` returns `Stopped`.
-#[derive(Drop)]
 pub struct MemoryFeed {
     splitter: Splitter,
     // The number of bytes, up to one more than a source may have.
@@ -38,6 +37,18 @@ pub struct MemoryFeed {
     // The number of units taken.
     units: u64,
     first: Option<First>,
+}
+
+impl Drop for MemoryFeed {
+    fn drop(self) {
+        let MemoryFeed {
+            splitter: _,
+            taken: _,
+            assembler: _,
+            units: _,
+            first: _,
+        } = self;
+    }
 }
 
 impl Model for MemoryFeed {

@@ -14,7 +14,6 @@ use vx_sei::MessageList;
 use vx_sps::Sps;
 
 /// A picture header, with what is in force for it.
-#[derive(Drop)]
 pub(crate) struct BegunPicture {
     /// ph_pic_parameter_set_id.
     pub pps_id: u8,
@@ -24,6 +23,17 @@ pub(crate) struct BegunPicture {
     pub header: PictureHeader,
     /// Its TemporalId.
     pub temporal_id: u8,
+}
+
+impl Drop for BegunPicture {
+    fn drop(self) {
+        let BegunPicture {
+            pps_id: _,
+            sets: _,
+            header: _,
+            temporal_id: _,
+        } = self;
+    }
 }
 
 /// A picture whose first slice was taken.
@@ -47,7 +57,6 @@ pub(crate) enum Stage {
 }
 
 /// The picture that was begun last, with the slices taken so far.
-#[derive(Drop)]
 pub(crate) struct CurrentPicture {
     /// How far it has been taken.
     pub stage: Stage,
@@ -63,6 +72,19 @@ pub(crate) struct CurrentPicture {
     pub messages: MessageList,
 }
 
+impl Drop for CurrentPicture {
+    fn drop(self) {
+        let CurrentPicture {
+            stage: _,
+            bytes: _,
+            header_end: _,
+            slices: _,
+            bodies: _,
+            messages: _,
+        } = self;
+    }
+}
+
 /// The sets to which a PPS id refers, and what they make up.
 #[derive(Drop)]
 pub(crate) struct MadeSets {
@@ -73,7 +95,6 @@ pub(crate) struct MadeSets {
 }
 
 /// What is kept of the units that were taken.
-#[derive(Drop)]
 pub(crate) struct State {
     /// The stored SPSs, by their ids.
     pub sps: [Option<Shared<Sps>>; 16],
@@ -99,6 +120,25 @@ pub(crate) struct State {
     pub previous: PrevTid0,
     /// Whether a sequence ended since the last slice.
     pub ended: bool,
+}
+
+impl Drop for State {
+    fn drop(self) {
+        let State {
+            sps: _,
+            pps: _,
+            made: _,
+            aps: _,
+            fields: _,
+            picture: _,
+            gathered: _,
+            gathered_len: _,
+            last: _,
+            unchanged: _,
+            previous: _,
+            ended: _,
+        } = self;
+    }
 }
 
 impl State {

@@ -156,7 +156,7 @@ impl<'a> SliceUnit<'a> {
 }
 
 /// The class of a NAL unit type.
-#[derive(Clone, Copy, Debug, PartialEq, Eq)]
+#[derive(Clone, Copy, PartialEq, Eq)]
 pub(crate) enum UnitClass {
     /// A type that is dropped.
     Other,

@@ -166,7 +166,7 @@ impl<T: Drop> LentList<T> {
 }
 
 /// One field of a syntax structure: its number and its value.
-#[derive(Clone, Copy, Debug, PartialEq, Eq)]
+#[derive(Clone, Copy, PartialEq, Eq)]
 pub struct Item {
     /// The number of the field.
     pub field: u16,

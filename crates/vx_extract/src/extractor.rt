@@ -15,13 +15,24 @@ const ALL: u8 = 6;
 /// Writes a subpicture of picture after picture, as a stream of its own.
 ///
 /// After a refusal, lack of memory or a failed write every call returns [`WriteError::Stopped`] with it, and writes nothing.
-#[derive(Drop)]
 pub struct Extractor {
     alloc: Global,
     task: Task,
     slots: Slots,
     kept: Option<Rewritten>,
     first: Option<WriteFirst>,
+}
+
+impl Drop for Extractor {
+    fn drop(self) {
+        let Extractor {
+            alloc: _,
+            task: _,
+            slots: _,
+            kept: _,
+            first: _,
+        } = self;
+    }
 }
 
 impl Model for Extractor {

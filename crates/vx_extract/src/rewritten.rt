@@ -12,7 +12,6 @@ use vx_pps::Pps;
 use vx_sps::Sps;
 
 /// The SPS and PPS that are sent for a subpicture of pictures with the same sets.
-#[derive(Drop)]
 pub(crate) struct Rewritten {
     /// The key of the pictures' sets.
     source: SetsKey,
@@ -20,6 +19,16 @@ pub(crate) struct Rewritten {
     pub(crate) sps: Sps,
     /// The PPS that is sent.
     pub(crate) pps: Pps,
+}
+
+impl Drop for Rewritten {
+    fn drop(self) {
+        let Rewritten {
+            source: _,
+            sps: _,
+            pps: _,
+        } = self;
+    }
 }
 
 /// States that the two sets of a picture determine its layout and the ids of its subpictures.

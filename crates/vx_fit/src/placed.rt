@@ -8,7 +8,7 @@ use thiserror::Error;
 use vx_layout::Rect;
 
 /// A region of a frame: its corner and its size, in luma samples.
-#[derive(Clone, Copy, Debug, PartialEq, Eq)]
+#[derive(Clone, Copy, PartialEq, Eq)]
 pub struct Placed {
     /// The column of its left samples.
     pub x: u32,

@@ -16,7 +16,7 @@ use vx_table::natural;
 const I: u32 = 2;
 
 /// What an entry of a reference picture list states about its picture (H.266 8.3.2).
-#[derive(Clone, Copy, Debug, PartialEq, Eq)]
+#[derive(Clone, Copy, PartialEq, Eq)]
 pub enum Collocated {
     /// The difference of its picture order count from the picture's own.
     Nearby(i64),

@@ -1,7 +1,7 @@
 //! Where a region begins.
 
 /// The upper left corner of a region, in luma samples.
-#[derive(Clone, Copy, Debug, PartialEq, Eq)]
+#[derive(Clone, Copy, PartialEq, Eq)]
 pub struct Corner {
     /// The column of the region's left samples.
     pub x: u32,

@@ -41,7 +41,6 @@ pub(crate) struct RenamedPps {
 /// - the greatest DPB numbers,
 /// - each region as a subpicture whose id is its index,
 /// - the tiles and slices of all pictures.
-#[derive(Drop)]
 pub struct Frame {
     /// The key of each source's sets.
     pub(crate) sources: Vec<SetsKey>,
@@ -55,6 +54,19 @@ pub struct Frame {
     pub plain: Pps,
     /// The frame's PPS under the last other id that it took.
     pub(crate) renamed: Option<RenamedPps>,
+}
+
+impl Drop for Frame {
+    fn drop(self) {
+        let Frame {
+            sources: _,
+            geometry: _,
+            layout: _,
+            sps: _,
+            plain: _,
+            renamed: _,
+        } = self;
+    }
 }
 
 /// The frame of a round whose sets break no rule, as far as it is made.

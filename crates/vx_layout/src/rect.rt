@@ -8,7 +8,7 @@ ghost use Rattle.vx_layout.specs.inner.Neighbours.{meet, precedes};
 use vx_bits::CopyList;
 
 /// A rectangle of CTUs: its left column, its upper row, its width and its height.
-#[derive(Clone, Copy, Debug, PartialEq, Eq)]
+#[derive(Clone, Copy, PartialEq, Eq)]
 pub struct Rect {
     /// The column of its left CTUs.
     pub x: u32,

@@ -1,7 +1,7 @@
 //! Which sources have ended.
 
 /// Which sources have ended.
-#[derive(Clone, Copy, Debug, PartialEq, Eq)]
+#[derive(Clone, Copy, PartialEq, Eq)]
 pub enum Lengths {
     /// None has ended.
     AllGo,

@@ -22,13 +22,24 @@ use vx_write::{Slots, WriteError, WriteFirst, first_of};
 ///
 /// A round that passes a check counts as written, so a merger either checks or writes. After a refusal, lack of memory or a failed write
 /// every call returns [`WriteError::Stopped`] with it, and writes nothing.
-#[derive(Drop)]
 pub struct Merger {
     alloc: Global,
     corners: Vec<Corner>,
     level: Option<u8>,
     progress: Progress,
     first: Option<WriteFirst>,
+}
+
+impl Drop for Merger {
+    fn drop(self) {
+        let Merger {
+            alloc: _,
+            corners: _,
+            level: _,
+            progress: _,
+            first: _,
+        } = self;
+    }
 }
 
 impl Model for Merger {

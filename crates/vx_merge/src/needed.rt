@@ -43,7 +43,6 @@ pub(crate) struct NamedBodies<'a> {
 }
 
 /// The sets that a round needs, with the ids that they take.
-#[derive(Drop)]
 pub(crate) struct RoundSets<'s, 'a> {
     /// The SPS, with id 0.
     pub(crate) sps: &'s Sps,
@@ -59,6 +58,20 @@ pub(crate) struct RoundSets<'s, 'a> {
     pub(crate) scales_chroma: bool,
     /// The scaling lists, if a source has them.
     pub(crate) scaling: NamedBodies<'a>,
+}
+
+impl Drop for RoundSets<'_, '_> {
+    fn drop(self) {
+        let RoundSets {
+            sps: _,
+            pps: _,
+            pps_id: _,
+            alf: _,
+            lmcs: _,
+            scales_chroma: _,
+            scaling: _,
+        } = self;
+    }
 }
 
 // ---- bodies

@@ -8,7 +8,7 @@ use vx_bits::rules::POC_RANGE;
 
 /// prevTid0Pic as the counts of later pictures use it (H.266 8.3.1). It is the last picture with TemporalId 0 and
 /// ph_non_ref_pic_flag 0 that is neither RADL nor RASL. Both numbers are 0 if there is none.
-#[derive(Clone, Copy, Debug, Default, PartialEq, Eq)]
+#[derive(Clone, Copy, Default, PartialEq, Eq)]
 pub struct PrevTid0 {
     /// Its ph_pic_order_cnt_lsb.
     pub lsb: u32,
@@ -17,7 +17,7 @@ pub struct PrevTid0 {
 }
 
 /// The fields of an SPS and a picture header from which a picture's count is computed.
-#[derive(Clone, Copy, Debug, PartialEq, Eq)]
+#[derive(Clone, Copy, PartialEq, Eq)]
 pub struct CountFields {
     /// The number of bits of ph_pic_order_cnt_lsb, from 4 to 16: sps_log2_max_pic_order_cnt_lsb_minus4 + 4.
     pub lsb_bits: u32,

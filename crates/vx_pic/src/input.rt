@@ -22,7 +22,6 @@ use vx_sh::SliceHeader;
 ///
 /// By H.266, two slices with the same input decode alike, wherever they are in a frame and whatever ids name their sets. That is
 /// not proved here.
-#[derive(Drop)]
 pub struct DecodingInput<'a> {
     /// The kind of its picture among the pictures of its stream.
     pub kind: Kind,
@@ -48,6 +47,25 @@ pub struct DecodingInput<'a> {
     pub place: Place,
     /// The bytes of its unit after the slice header.
     pub payload: &'a [u8],
+}
+
+impl Drop for DecodingInput<'_> {
+    fn drop(self) {
+        let DecodingInput {
+            kind: _,
+            sps: _,
+            pps: _,
+            header: _,
+            slice: _,
+            alf: _,
+            lmcs: _,
+            scaling: _,
+            lists: _,
+            slice_qp: _,
+            place: _,
+            payload: _,
+        } = self;
+    }
 }
 
 /// The kept fields of the sets and the headers of a slice.

@@ -1,7 +1,7 @@
 //! The kind of a picture among the pictures of its stream.
 
 /// The kind of a picture among the pictures of its stream: its type, its TemporalId and its order count.
-#[derive(Clone, Copy, Debug, PartialEq, Eq)]
+#[derive(Clone, Copy, PartialEq, Eq)]
 pub struct Kind {
     /// nal_unit_type of its slices.
     pub nal_type: u8,

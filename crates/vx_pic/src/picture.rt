@@ -69,9 +69,14 @@ pub struct PictureParts<'a> {
 ///
 /// Its two sets have the same size and make up its layout and its ids. Its header was read under them, and each slice header
 /// under them and the header. Its adaptation parameter sets are valid. *Model:* a record of the values that its calls return.
-#[derive(Drop)]
 pub struct Picture<'a> {
     parts: PictureParts<'a>,
+}
+
+impl Drop for Picture<'_> {
+    fn drop(self) {
+        let Picture { parts: _ } = self;
+    }
 }
 
 impl<'a> Model for Picture<'a> {

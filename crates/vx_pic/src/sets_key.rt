@@ -34,12 +34,22 @@ fn is_same_rbsp(known: Option<&Bytes>, other: Option<&Bytes>) -> bool
 /// Identifies an SPS and PPS pair, to find out cheaply whether two pictures have the same sets.
 ///
 /// Compares the RBSPs if both are known, and otherwise the items. *Model:* the items.
-#[derive(Drop)]
 pub struct SetsKey {
     sps: Fields,
     sps_rbsp: Option<Bytes>,
     pps: Fields,
     pps_rbsp: Option<Bytes>,
+}
+
+impl Drop for SetsKey {
+    fn drop(self) {
+        let SetsKey {
+            sps: _,
+            sps_rbsp: _,
+            pps: _,
+            pps_rbsp: _,
+        } = self;
+    }
 }
 
 impl Model for SetsKey {

@@ -6,7 +6,7 @@ use std::alloc::Global;
 use vx_bits::Fields;
 
 /// A structure whose fields are shown.
-#[derive(Clone, Copy, Debug, PartialEq, Eq)]
+#[derive(Clone, Copy, PartialEq, Eq)]
 pub enum Structure {
     /// A video parameter set, as far as it is read.
     Vps,

@@ -10,7 +10,7 @@ use crate::tiles::Tiles;
 use vx_layout::{Bounds, Rect};
 
 /// The tiles of a group: the first one, and the numbers across and down.
-#[derive(Clone, Copy, Debug)]
+#[derive(Clone, Copy)]
 pub(crate) struct Span {
     pub start: u32,
     pub wide: u32,

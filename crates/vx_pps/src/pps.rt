@@ -20,7 +20,6 @@ use vx_table::{Scope, natural};
 /// partitioned, the tile bounds rise from 0 to its columns and rows of CTUs, at most 512. It has a slice list exactly if it
 /// is partitioned and pps_single_slice_per_subpic_flag isn't 1: 1 to 1,000 slices, each with a CTU (law
 /// [`sets_tell_partitions`](crate::sets_tell_partitions)). *Model:* the list of its items.
-#[derive(Drop)]
 pub struct Pps {
     fields: Fields,
     rbsp: Option<Bytes>,
@@ -28,6 +27,19 @@ pub struct Pps {
     partition: Partition,
     default_active_0: u32,
     default_active_1: u32,
+}
+
+impl Drop for Pps {
+    fn drop(self) {
+        let Pps {
+            fields: _,
+            rbsp: _,
+            scope: _,
+            partition: _,
+            default_active_0: _,
+            default_active_1: _,
+        } = self;
+    }
 }
 
 impl Model for Pps {

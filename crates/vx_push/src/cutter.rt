@@ -15,7 +15,7 @@ use vx_pic::{Kind, Picture};
 use vx_run::{Place, Stop, Task, pictures_have_slices, some_picture};
 
 /// The state of a cutter.
-#[derive(Clone, Copy, Debug, PartialEq, Eq)]
+#[derive(Clone, Copy, PartialEq, Eq)]
 pub enum Cut {
     /// An extracted picture is to be taken.
     Picture,
@@ -32,7 +32,6 @@ pub enum Cut {
 /// It holds at most one picture of output, until that is taken. It writes what `extract` writes of the same stream. After the end, a
 /// refusal or lack of memory [`next`](Cutter::next) returns that again. No clause says that `flush` and `end` keep a picture that is
 /// held.
-#[derive(Drop)]
 pub struct Cutter {
     alloc: Global,
     intake: Intake,
@@ -44,6 +43,20 @@ pub struct Cutter {
     store: Store,
     // How the extraction ended, once it has.
     end: Option<Cut>,
+}
+
+impl Drop for Cutter {
+    fn drop(self) {
+        let Cutter {
+            alloc: _,
+            intake: _,
+            extractor: _,
+            tid: _,
+            pictures: _,
+            store: _,
+            end: _,
+        } = self;
+    }
 }
 
 impl Model for Cutter {

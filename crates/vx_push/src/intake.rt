@@ -8,7 +8,7 @@ use vx_bits::Refusal;
 use vx_pic::{Lender, Picture};
 
 /// The state of an intake.
-#[derive(Clone, Copy, Debug, PartialEq, Eq)]
+#[derive(Clone, Copy, PartialEq, Eq)]
 pub enum State {
     /// It waits for bytes: those pushed so far show no further picture.
     Waits,
@@ -26,13 +26,23 @@ pub enum State {
 ///
 /// It takes bytes only while it waits for them, and holds at most 2^25 + 2^23 + 65,538 of them. What it finds depends only on the bytes
 /// pushed, not on how they are cut. After the end, a refusal or lack of memory it takes nothing more.
-#[derive(Drop)]
 pub struct Intake {
     feed: Feed,
     state: State,
     // Whether zeros were pushed after the picture that is lent, and whether there are no more bytes.
     flushed: bool,
     ended: bool,
+}
+
+impl Drop for Intake {
+    fn drop(self) {
+        let Intake {
+            feed: _,
+            state: _,
+            flushed: _,
+            ended: _,
+        } = self;
+    }
 }
 
 impl Model for Intake {

@@ -20,7 +20,7 @@ use vx_pic::{Kind, Lender};
 use vx_run::{Place, Stop, all_go_on, merge_ends_once};
 
 /// The state of a mixer.
-#[derive(Clone, Copy, Debug, PartialEq, Eq)]
+#[derive(Clone, Copy, PartialEq, Eq)]
 pub enum Mixed {
     /// A merged picture is to be taken.
     Picture,
@@ -40,7 +40,6 @@ pub struct NoSource;
 ///
 /// It holds at most one merged picture, until that is taken. It merges what `merge` merges of the same streams, by the law
 /// [`mixed_is_merged`]. After the end, a refusal or lack of memory [`next`](Mixer::next) returns that again.
-#[derive(Drop)]
 pub struct Mixer {
     alloc: Global,
     merger: Merger,
@@ -53,6 +52,20 @@ pub struct Mixer {
     store: Store,
     // How the merge ended, once it has.
     end: Option<Mixed>,
+}
+
+impl Drop for Mixer {
+    fn drop(self) {
+        let Mixer {
+            alloc: _,
+            merger: _,
+            intakes: _,
+            ended: _,
+            rounds: _,
+            store: _,
+            end: _,
+        } = self;
+    }
 }
 
 impl Model for Mixer {

@@ -6,7 +6,7 @@ use vx_io::GrowSink;
 use vx_pic::Kind;
 
 /// A picture of output: its number, its length and its kind.
-#[derive(Clone, Copy, Debug, PartialEq, Eq)]
+#[derive(Clone, Copy, PartialEq, Eq)]
 pub struct WrittenPicture {
     /// Its number, from 0, among the rounds of a merge or the pictures of a cutter's source, kept or not.
     pub number: u64,
@@ -17,11 +17,20 @@ pub struct WrittenPicture {
 }
 
 /// Holds a picture of output and its kind until the picture is taken.
-#[derive(Drop)]
 pub(crate) struct Store {
     pub(crate) alloc: Global,
     pub(crate) written: GrowSink,
     pub(crate) held: Option<Kind>,
+}
+
+impl Drop for Store {
+    fn drop(self) {
+        let Store {
+            alloc: _,
+            written: _,
+            held: _,
+        } = self;
+    }
 }
 
 impl Store {

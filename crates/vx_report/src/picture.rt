@@ -9,7 +9,7 @@ use std::alloc::{AllocError, Global};
 use vx_pic::Picture;
 
 /// The numbers that `show` prints of a picture.
-#[derive(Clone, Copy, Debug, PartialEq, Eq)]
+#[derive(Clone, Copy, PartialEq, Eq)]
 pub struct PictureNumbers {
     /// How many pictures came before it.
     pub picture: u64,

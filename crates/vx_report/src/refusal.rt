@@ -14,7 +14,7 @@ use vx_bits::{BitCause, Refusal};
 use vx_pic::SPS;
 
 /// Where a rule was broken.
-#[derive(Clone, Copy, Debug, PartialEq, Eq)]
+#[derive(Clone, Copy, PartialEq, Eq)]
 pub struct Where {
     /// The source, from 0.
     pub source: u16,

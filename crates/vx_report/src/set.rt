@@ -19,7 +19,7 @@ use vx_sps::Sps;
 use vx_table::Scope;
 
 /// The numbers that `show` prints of a parameter set.
-#[derive(Clone, Copy, Debug, PartialEq, Eq)]
+#[derive(Clone, Copy, PartialEq, Eq)]
 pub enum SetNumbers {
     /// A video parameter set: vps_video_parameter_set_id, and the maximum numbers of layers and sublayers that it states.
     Vps {

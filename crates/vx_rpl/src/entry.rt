@@ -6,7 +6,7 @@ use std::alloc::{AllocError, Global};
 use std::marker::Model;
 
 /// An entry of a reference picture list, which identifies its picture (H.266 7.3.10 and 7.4.11).
-#[derive(Clone, Copy, Debug, PartialEq, Eq)]
+#[derive(Clone, Copy, PartialEq, Eq)]
 pub enum RefEntry {
     /// A short-term reference picture: AbsDeltaPocSt, and the sign.
     Short {

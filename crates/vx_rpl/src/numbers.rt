@@ -11,7 +11,7 @@ use vx_fields::sps::{
 use vx_table::Scope;
 
 /// The numbers of the parameter sets that reference picture lists depend on.
-#[derive(Clone, Copy, Debug)]
+#[derive(Clone, Copy)]
 pub struct RplNumbers {
     /// sps_long_term_ref_pics_flag.
     pub long_term: bool,
@@ -52,7 +52,7 @@ impl RplNumbers {
 }
 
 /// The numbers of parameter sets and headers that prediction weights depend on.
-#[derive(Clone, Copy, Debug)]
+#[derive(Clone, Copy)]
 pub struct WeightNumbers {
     /// Whether there is chroma: sps_chroma_format_idc isn't 0.
     pub chroma: bool,

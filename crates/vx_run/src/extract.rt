@@ -31,7 +31,7 @@ use vx_io::{Sink, Source, write_all};
 use vx_pic::{Picture, subpictures_have_slices};
 
 /// The request of an extraction: which subpicture, which pictures, and which level.
-#[derive(Clone, Copy, Debug, PartialEq, Eq)]
+#[derive(Clone, Copy, PartialEq, Eq)]
 pub struct Task {
     /// The index of the subpicture, from 0.
     pub target: u32,

@@ -14,7 +14,7 @@ use vx_verify::Mismatch;
 use vx_write::WriteError;
 
 /// Where a rule was broken.
-#[derive(Clone, Copy, Debug, PartialEq, Eq)]
+#[derive(Clone, Copy, PartialEq, Eq)]
 pub enum Place {
     /// A NAL unit of a source, both counted from 0. At the end of a source, `unit` is its number of units.
     Unit { source: u16, unit: u64 },
@@ -59,7 +59,7 @@ impl Place {
 }
 
 /// The reason why a command isn't done.
-#[derive(Clone, Copy, Debug, PartialEq, Eq)]
+#[derive(Clone, Copy, PartialEq, Eq)]
 pub enum Stop {
     /// The arguments are no command.
     NotUnderstood,

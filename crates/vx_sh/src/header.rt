@@ -4,7 +4,6 @@ use vx_bits::Fields;
 use vx_rpl::RefLists;
 
 /// A slice header: its fields, its place in the picture, and its reference picture lists.
-#[derive(Drop)]
 pub struct SliceHeader {
     /// Whether the picture header is inside.
     pub inside: bool,
@@ -16,4 +15,16 @@ pub struct SliceHeader {
     pub address: u32,
     /// The reference picture lists that its items determine, both empty if it has none.
     pub lists: RefLists,
+}
+
+impl Drop for SliceHeader {
+    fn drop(self) {
+        let SliceHeader {
+            inside: _,
+            fields: _,
+            subpic: _,
+            address: _,
+            lists: _,
+        } = self;
+    }
 }

@@ -24,7 +24,6 @@ use vx_table::{Scope, natural, quotient};
 /// A sequence parameter set (H.266 7.3.2.4).
 ///
 /// The values that callers need are computed once, when it is made. *Model:* the list of its items.
-#[derive(Drop)]
 pub struct Sps {
     fields: Fields,
     rbsp: Option<Bytes>,
@@ -33,6 +32,20 @@ pub struct Sps {
     table: RplTable,
     extra_ph_bits: u32,
     extra_sh_bits: u32,
+}
+
+impl Drop for Sps {
+    fn drop(self) {
+        let Sps {
+            fields: _,
+            rbsp: _,
+            scope: _,
+            subpictures: _,
+            table: _,
+            extra_ph_bits: _,
+            extra_sh_bits: _,
+        } = self;
+    }
 }
 
 impl Model for Sps {

@@ -21,7 +21,7 @@ use vx_layout::Rect;
 use vx_table::{Scope, natural};
 
 /// A subpicture, as a set stores it.
-#[derive(Clone, Copy, Debug)]
+#[derive(Clone, Copy)]
 pub(crate) struct Subpicture {
     /// Its rectangle, in CTUs.
     pub rect: Rect,

@@ -10,7 +10,7 @@ use vx_bits::{Fields, Item};
 /// The latest number of each field and name, 0 for those that have none. Fields and names are numbers below 1024.
 ///
 /// Copying takes the same time whatever it contains. *Model:* the list of these numbers.
-#[derive(Clone, Copy, Debug)]
+#[derive(Clone, Copy)]
 pub struct Scope {
     numbers: [u32; 1024],
 }

@@ -23,7 +23,7 @@ use vx_io::GrowSink;
 use vx_merge::Corner;
 
 /// The counts of a trial.
-#[derive(Clone, Copy, Debug, PartialEq, Eq)]
+#[derive(Clone, Copy, PartialEq, Eq)]
 pub struct Tally {
     /// The number of pictures of each stream.
     pub pictures: u32,

@@ -6,7 +6,7 @@ ghost use Rattle.vx_trial.specs.inner.Weighing.{Weighs};
 /// The weight of bytes that come in pieces.
 ///
 /// It is the sum of each byte times its place, counted from 1, modulo 2^32.
-#[derive(Clone, Copy, Debug, PartialEq, Eq)]
+#[derive(Clone, Copy, PartialEq, Eq)]
 pub(crate) struct Weight {
     /// The place of the next byte.
     place: u32,

@@ -1,7 +1,7 @@
 //! The place of a source in the finished picture.
 
 /// The upper left corner of a source in the finished picture, in luma samples.
-#[derive(Clone, Copy, Debug, PartialEq, Eq)]
+#[derive(Clone, Copy, PartialEq, Eq)]
 pub struct Spot {
     /// The column of the source's left samples.
     pub x: u32,

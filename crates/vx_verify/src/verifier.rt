@@ -13,11 +13,20 @@ use vx_pic::{Lender, Picture, lent};
 ///
 /// A round is one picture of the finished stream and of each source, and is judged by itself. After a mismatch or lack of memory every
 /// call returns [`VerifyError::Stopped`] with it.
-#[derive(Drop)]
 pub struct Verifier {
     alloc: Global,
     spots: Vec<Spot>,
     first: Option<VerifyFirst>,
+}
+
+impl Drop for Verifier {
+    fn drop(self) {
+        let Verifier {
+            alloc: _,
+            spots: _,
+            first: _,
+        } = self;
+    }
 }
 
 impl Model for Verifier {

@@ -95,9 +95,14 @@ fn replace(sets: &mut Vec<SentSet>, i: usize, sent: SentSet)
 ///
 /// A set is *resident* if the last one sent of its type and id, since the last IRAP or GDR picture, is the same set and has no higher
 /// TemporalId than the picture. *Model:* the list of these sets.
-#[derive(Drop)]
 pub struct Slots {
     sets: Vec<SentSet>,
+}
+
+impl Drop for Slots {
+    fn drop(self) {
+        let Slots { sets: _ } = self;
+    }
 }
 
 impl Model for Slots {
