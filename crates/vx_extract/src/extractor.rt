@@ -85,9 +85,11 @@ impl Extractor {
     /// Writes the subpicture of a picture, after those of earlier pictures. Writes nothing if the picture's sublayer is left out.
     ///
     /// The units come in this order: an end of sequence where one stood, the needed sets that aren't resident, the messages, the picture
-    /// header, and the slices of the subpicture. The picture header and the slices are copied byte for byte. *Errors:* `Refused`: the
-    /// first rule that the picture breaks (E2 to E5). `Memory`. After either, nothing of the picture is written. `SinkFailed`: a proper
-    /// prefix of it is written. After an error every call returns `Stopped` with it.
+    /// header, and the slices of the subpicture. The picture header and the slices are copied byte for byte. What is written is specified
+    /// only if the picture has a slice of the subpicture, as each picture of a stream has.
+    ///
+    /// *Errors:* `Refused`: the first rule that the picture breaks (E2 to E5). `Memory`. After either, nothing of the picture is written.
+    /// `SinkFailed`: a proper prefix of it is written. After an error every call returns `Stopped` with it.
     pub fn picture<K: Sink>(&mut self, picture: &Picture<'_>, out: &mut K) -> Result<(), WriteError>
         ensures answer { (done : List Plan) → Stands self.old done
             → WritesPicture picture.now done self.new (K.bytes_taken out.old) (K.bytes_taken out.new) (K.write_faults out.old) (K.write_faults out.new) result }
