@@ -3,7 +3,7 @@ ghost use Rattle.std.specs.Prelude.{◌≡◌, MatchOption};
 ghost use Rattle.vx_annexb.specs.NalUnit.{HasHeader, header_of};
 
 /// A NAL unit header: the values of the first two bytes of a unit (H.266 7.3.1.2).
-#[derive(Clone, Copy, PartialEq, Eq)]
+#[derive(Clone, Copy, Debug, PartialEq, Eq)]
 pub struct NalHeader {
     /// nuh_reserved_zero_bit
     pub reserved: bool,

@@ -28,7 +28,7 @@ use vx_pps::Pps;
 use vx_sps::Sps;
 
 /// What a feed has taken: a unit, or the end of the source.
-#[derive(Clone, Copy, PartialEq, Eq)]
+#[derive(Clone, Copy, Debug, PartialEq, Eq)]
 pub enum Taken {
     /// A NAL unit.
     Nal {
@@ -46,7 +46,7 @@ pub enum Taken {
 }
 
 /// The step to which a feed advanced: a picture, or the end.
-#[derive(Clone, Copy, PartialEq, Eq)]
+#[derive(Clone, Copy, Debug, PartialEq, Eq)]
 pub enum Step {
     /// A picture, with its last slice.
     Picture,

@@ -1,7 +1,7 @@
 //! The result of taking a unit.
 
 /// What a NAL unit was that was taken.
-#[derive(Clone, Copy, PartialEq, Eq)]
+#[derive(Clone, Copy, Debug, PartialEq, Eq)]
 pub enum Accepted {
     /// Nothing to report: a unit that is dropped, a header, messages, an end of sequence, or a slice that isn't the last.
     Nothing,
