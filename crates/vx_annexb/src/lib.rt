@@ -1,12 +1,12 @@
 //! NAL units in a byte stream (H.266 Annex B): where each begins and ends, and what its header contains.
 //!
 //! A [`UnitReader`] reads a source and returns its units one at a time; a [`Splitter`] does so for bytes that
-//! are fed to it. [`write_unit`] writes a unit behind a start code. [`escape`] and [`unescape`] insert and
+//! are fed to it. [`write_unit`] writes a unit after a start code. [`escape`] and [`unescape`] insert and
 //! remove emulation prevention bytes, and [`read_header`] reads the two bytes of a unit's header.
 //!
-//! `specs/ByteStream.antt` defines the units of a stream, `specs/Emulation.antt` the emulation prevention,
-//! and `specs/NalUnit.antt` the header and what makes a unit sound. `specs/Reading.antt` relates a reader to
-//! its source.
+//! `specs/ByteStream.antt` defines the units of a stream and the rules on them, `specs/Emulation.antt` the
+//! emulation prevention, and `specs/NalUnit.antt` the header. `specs/Reading.antt` relates a reader to its
+//! source.
 #![tactic(auto)]
 
 mod emulation;

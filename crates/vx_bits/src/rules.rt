@@ -101,7 +101,7 @@ pub const LAYOUT: u8 = 12;
 pub const POC_RANGE: u8 = 13;
 /// S14: the quantization parameter of a slice is outside its range.
 pub const QP_RANGE: u8 = 14;
-/// S15: the picture header stands in a slice of a picture that has several.
+/// S15: the picture header is in a slice of a picture that has several slices.
 pub const HEADER_INSIDE_OF_SEVERAL: u8 = 15;
 
 // Extracting a subpicture.

@@ -12,7 +12,8 @@ pub fn faultless_fits()
     ensures { FaultlessFits }
 {}
 
-/// If regions fit together, then the CTUs of a region have its own samples, cut only at the frame's right and lower border.
+/// If regions fit together and aren't empty, then the CTUs of each have its samples, cut only at the frame's right and
+/// lower border.
 pub fn border_is_regions()
     ensures { BorderIsRegions }
 {}

@@ -4,9 +4,9 @@
 //! slice depends on. Mergers and extractors compare pictures by [`Kind`], [`same_input`] and [`SetsKey`].
 //! [`StructureFields`] holds the fields of a unit's structure for display.
 //!
-//! `specs/Streams.antt` and `specs/Units.antt` define how units are read after those before them and which
-//! pictures follow, `specs/Rules.antt` the rules on them, and `specs/Inputs.antt` decoding inputs. The laws
-//! hold whatever sets and headers are read as.
+//! `specs/Rules.antt` defines how each unit is read after those before it, `specs/Readings.antt` the state that
+//! follows, `specs/Streams.antt` and `specs/Bytes.antt` the pictures of units and of bytes, and
+//! `specs/Inputs.antt` decoding inputs. The laws hold whatever sets and headers are read as.
 #![tactic(auto)]
 
 mod accepted;

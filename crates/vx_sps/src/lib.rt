@@ -1,12 +1,12 @@
 //! The sequence parameter set of H.266 (clause 7.3.2.4).
 //!
-//! Its syntax stands in tables, cut into groups of fields that a rewritten set copies from its source or
-//! replaces. [`read_sps`] reads a set, [`write_sps`] writes it, and [`keep_sps`] returns its kept fields.
-//! [`Sps`] holds what headers, layouts and rewriting need. [`reshape_sps`] makes the set of a region or a
-//! frame, as an [`SpsShape`] describes it.
+//! Its syntax is in tables, cut into groups of fields that a rewritten set copies from its source or replaces.
+//! [`read_sps`] reads a set, [`write_sps`] writes it, and [`keep_sps`] returns its kept fields. [`Sps`] holds
+//! what headers, layouts and rewriting need. [`reshape_sps`] makes the set of a region or a frame, as an
+//! [`SpsShape`] describes it.
 //!
-//! `specs/Set.antt` and `specs/Structure.antt` define a set and its bits, and `specs/Reshaped.antt` a
-//! rewritten one.
+//! `specs/Set.antt` and `specs/Structure.antt` define a set and its bits, and `specs/Reshaped.antt` a rewritten
+//! one.
 #![tactic(auto)]
 
 mod laws;

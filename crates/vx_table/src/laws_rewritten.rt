@@ -38,8 +38,8 @@ pub fn parts_rewrite()
     ensures together { RewritesTogether }
 {}
 
-/// If a form takes given values in place of a part, then so does each that agrees with it, one part after another, and the
-/// turns of a block.
+/// These items can replace a part: values that its fields may have; what goes through at one scope, at each that agrees;
+/// one part after another; and the turns of a block.
 pub fn items_take()
     ensures values { ValuesTake }
     ensures again { TakesAgain }
