@@ -25,7 +25,7 @@ pub fn read_box(source: &mut Box<dyn Source>, into: &mut [u8]) -> Result<usize, 
     read_from(&mut **source, into)
 }
 
-/// Reads from `sources[k]`, as [`Source::read`] does, and leaves the other sources unchanged.
+/// Reads from the source at `k`, as [`Source::read`] does, and leaves the other sources unchanged.
 pub fn read_at(
     sources: &mut Vec<Box<dyn Source>>,
     k: usize,

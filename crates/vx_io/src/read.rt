@@ -7,7 +7,7 @@ ghost use Rattle.vx_io.specs.Faults.{CountsFault};
 use std::error::Error;
 use std::fmt;
 
-/// A read failed. The source's count of faults records it.
+/// The error of a failed read. The source's count of faults records it.
 #[derive(Clone, Copy, PartialEq, Eq, Debug)]
 pub struct SourceFailed;
 

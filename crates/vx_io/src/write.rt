@@ -8,7 +8,7 @@ ghost use Rattle.vx_io.specs.Written.{AppendsFront};
 use std::error::Error;
 use std::fmt;
 
-/// A write failed. The sink's count of faults records it.
+/// The error of a failed write. The sink's count of faults records it.
 #[derive(Clone, Copy, PartialEq, Eq, Debug)]
 pub struct SinkFailed;
 
