@@ -1,4 +1,5 @@
--- Emulation prevention within a NAL unit (H.266 7.3.1.1, 7.4.2.1), by places in a finished list of bytes.
+-- Emulation prevention within a NAL unit (H.266 7.3.1.1, 7.4.2.1), by places in a finished list of bytes. All readers and writers
+-- of units rely on it.
 use Rattle.std.specs.Prelude.{◌≡◌, ℕ, zero, suc, ◌-◌, ◌<◌, ◌≤◌, ◌⊎◌, ◌&&◌, ◌==◌}
 use Rattle.std.specs.Prelude.{nat_le, Bool, IsTrue, List, [], ◌∷◌, ◌++◌, length, slice_index, if◌then◌else◌}
 use Rattle.vx_bits.specs.Codes.{EndsInNoZero}

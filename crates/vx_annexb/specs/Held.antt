@@ -1,5 +1,6 @@
 -- How callers see a splitter: a few observable values, and the relation `Stands` between it, the bytes that it was fed and the
--- units that it returned. The relation begins with no bytes and no units; `Answers` says what it implies for the next unit.
+-- units that it returned. The relation begins with no bytes and no units; `Answers` says what it implies for the next unit. The
+-- contracts of `Splitter` rely on it.
 use Rattle.std.specs.Prelude.{◌≡◌, ℕ, ◌+◌, ◌-◌, ◌≤◌, Bool, List, [], ◌∷◌, ◌++◌, Option, Some, None, Result, Ok, Err, length, slice_range}
 use Rattle.vx_bits.specs.declared.refusal.Refusal.{Refusal}
 use Rattle.vx_annexb.specs.declared.span.Span.{Span}

@@ -1,4 +1,4 @@
--- Statements of the laws on byte streams and on escaping.
+-- Statements of the laws on byte streams and on escaping. Crates that write streams rely on them.
 use Rattle.std.specs.Prelude.{◌≡◌, ℕ, ◌+◌, ◌*◌, ◌<◌, ◌≤◌, Bool, true, false, List, [], ◌∷◌}
 use Rattle.std.specs.Prelude.{◌++◌, All, Option, Some, None, drop, flat_map, length, map, replicate, take}
 use Rattle.vx_bits.specs.declared.refusal.Refusal.{Refusal}

@@ -1,4 +1,5 @@
--- A NAL unit and its header (H.266 7.3.1.2, 7.4.2.2). A unit is the list of its bytes.
+-- A NAL unit and its header (H.266 7.3.1.2, 7.4.2.2). A unit is the list of its bytes. The contract of `read_header`, and all
+-- readers of units, rely on it.
 use Rattle.std.specs.Prelude.{◌≡◌, ℕ, ◌-◌, ◌/◌, ◌%◌, ◌≤◌, ◌==◌, List, length, slice_index}
 use Rattle.vx_annexb.specs.declared.header.NalHeader.{NalHeader}
 

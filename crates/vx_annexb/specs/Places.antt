@@ -1,4 +1,5 @@
--- Places in a list of bytes: zeros, marks, and first places. Our own.
+-- Places in a list of bytes: zeros, marks, and first places. Our own. The definitions of streams and of emulation prevention rely
+-- on it.
 use Rattle.std.specs.Prelude.{◌≡◌, ℕ, ◌+◌, ◌<◌, ◌≤◌, List, length, slice_index}
 
 -- The bytes from place i up to place j are zeros.

@@ -1,5 +1,5 @@
--- How callers see a reader of units: a few observable values, and the relation `HasRead` between it, the bytes that it took
--- from a source and the units that it returned.
+-- How callers see a reader of units: a few observable values, and the relation `HasRead` between it, the bytes that it took from a
+-- source and the units that it returned. The contracts of `UnitReader` rely on it.
 use Rattle.std.specs.Prelude.{◌≡◌, ℕ, ◌+◌, ◌-◌, ◌^◌, ◌<◌, ◌≤◌, ◌⊎◌, min, true, false, List, []}
 use Rattle.std.specs.Prelude.{◌∷◌, ◌++◌, Option, Some, None, Result, Ok, Err, length, take, slice_range}
 use Rattle.std.specs.Io.KnownBytes.{Consumes, Keeps, IsAtEnd}

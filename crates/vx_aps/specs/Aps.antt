@@ -1,4 +1,5 @@
--- The RBSP of an adaptation parameter set (H.266 7.3.2.6, 7.4.3.6): its type and id in the first byte, and its body after it.
+-- The RBSP of an adaptation parameter set (H.266 7.3.2.6, 7.4.3.6): its type and id in the first byte, and its body after it. The
+-- contracts of `read_aps` and `write_aps` rely on it.
 use Rattle.std.specs.Prelude.{◌≡◌, ℕ, ◌+◌, ◌*◌, ◌≤◌, ◌<◌, ◌==◌, cond, List, [], ◌∷◌, length, Option, Some, None, Result, Ok, Err}
 use Rattle.vx_bits.specs.declared.refusal.Refusal.{Refusal}
 use Rattle.vx_bits.specs.declared.refusal.Refusal.TheVariants.{Syntax, Profile}

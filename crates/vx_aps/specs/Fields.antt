@@ -1,4 +1,5 @@
--- The fields of an adaptation parameter set in bytes (H.266 7.3.2.6), up to the first that is refused.
+-- The fields of an adaptation parameter set in bytes (H.266 7.3.2.6), up to the first that is refused. The contract of
+-- `read_aps_fields` relies on it.
 use Rattle.std.specs.Prelude.{◌≡◌, ℕ, pos, List, [], ◌∷◌, length, Option, Some, None, Result, Ok, Err}
 use Rattle.vx_bits.specs.declared.list.Item.{Item}
 use Rattle.vx_bits.specs.declared.refusal.Refusal.{Refusal}

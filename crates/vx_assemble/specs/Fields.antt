@@ -1,5 +1,6 @@
 -- The fields of a unit after those before it, in the order of the bits: all, or those before the first that is refused. The
--- structure is read wherever it comes: the rules on the order of units don't remove its fields. Our own.
+-- structure is read wherever it comes: the rules on the order of units don't remove its fields. Our own. The contract of
+-- `Assembler::unit_fields` relies on it.
 use Rattle.std.specs.Prelude.{ℕ, ◌==◌, not, pos, Bool, true, false, cond, List, ◌∷◌, Option, Some, None, Result, Ok, Err}
 use Rattle.vx_bits.specs.declared.list.Item.{Item}
 use Rattle.vx_bits.specs.declared.refusal.Refusal.{Refusal}

@@ -1,6 +1,6 @@
 -- How callers see a feed of bytes in memory: as a feed that was given all bytes within the limit, and by the relation `HasSeen`. It
 -- relates the feed to the bytes and to the pictures that it reached, the latest first. It begins with none of these; `Sees` says
--- what it implies.
+-- what it implies. The contracts of `MemoryFeed` rely on it.
 use Rattle.std.specs.Prelude.{◌≡◌, ℕ, ◌^◌, nat_le, cond, List, ◌∷◌, ◌++◌, length, Option, Some, None, Result, Ok, Err}
 use Rattle.vx_annexb.specs.ByteStream.{source_limit, UnitPlace}
 use Rattle.vx_annexb.specs.Held.{Held as Splitting, is_all}

@@ -1,4 +1,4 @@
--- Look-up in a list of fields. Our own.
+-- Look-up in a list of fields. Our own. The contract of `first` relies on it.
 use Rattle.std.specs.Prelude.{ℕ, ℤ, ◌==◌, List, Option, option_map, find}
 use Rattle.vx_bits.specs.declared.list.Item.{Item}
 

@@ -1,4 +1,4 @@
--- The size limit of what is read.
+-- The size limit of what is read. Contracts of all readers rely on it.
 use Rattle.std.specs.Prelude.{ℕ, ◌^◌}
 
 -- The greatest number of bytes of a unit (our own limit).

@@ -1,4 +1,4 @@
--- The names of fields as text. Our own; the names are those of H.266's syntax tables.
+-- The names of fields as text. Our own; the names are those of H.266's syntax tables. The contract of `name_of` relies on it.
 use Rattle.std.specs.Prelude.{◌≡◌, ℕ, ◌+◌, List, [], ◌∷◌, length, get_or, slice_range, Contains, Option, Some, None, IsSome, ◌↔◌}
 use Rattle.vx_fields.specs.declared.text.TheConstants.{TEXT, PLACES}
 use Rattle.vx_fields.specs.laws.Numbers.{numbered_fields}

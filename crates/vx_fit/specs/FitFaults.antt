@@ -1,5 +1,6 @@
--- The faults for which regions don't fit together into a frame, and the region that is named. A fault counts only if none before
--- it is present: the frame's size, the regions' geometry by three causes, their order. Our own.
+-- The faults for which regions don't fit together into a frame, and the region that is named. A fault counts only if none before it
+-- is present: the frame's size, the regions' geometry by three causes, their order. Our own. The contract of `fit_regions` relies
+-- on it.
 use Rattle.std.specs.Prelude.{◌≡◌, ℕ, ◌<◌, ◌⊎◌, List, All, length}
 use Rattle.std.specs.List.{AllPairs, slice_index_or}
 use Rattle.vx_fit.specs.declared.placed.FitFault.{FitFault}

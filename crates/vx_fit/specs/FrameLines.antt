@@ -1,5 +1,6 @@
--- The tile lines of a frame in CTUs (the bounds of its tile columns and rows, H.266 6.5.1), and when those that pass
--- through a region are the region's own. `corners` are the regions, by their index, and `parts` the pictures in them.
+-- The tile lines of a frame in CTUs (the bounds of its tile columns and rows, H.266 6.5.1), and when those that pass through a
+-- region are the region's own. `corners` are the regions, by their index, and `parts` the pictures in them. The contract of
+-- `fit_lines` relies on it.
 use Rattle.std.specs.Prelude.{◌≡◌, ◌↔◌, ℕ, ◌+◌, ◌<◌, ◌⊎◌, List, [], Contains, length}
 use Rattle.std.specs.List.{slice_index_or}
 use Rattle.vx_layout.specs.declared.numbers.Numbers.{Numbers}

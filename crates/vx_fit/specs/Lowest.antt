@@ -1,4 +1,4 @@
--- The lowest index at which something is broken. Our own.
+-- The lowest index at which something is broken. Our own. Contracts that name the lowest region or source rely on it.
 use Rattle.std.specs.Prelude.{ℕ, ◌<◌, Option, None, Some}
 
 -- k is the lowest of the indices below `count` that breaks the rule.

@@ -1,5 +1,5 @@
 -- Regions of a frame in luma samples, and the conditions under which they fit together. Each becomes a subpicture of the frame
--- (H.266 6.3.1), so its corner is on the grid of CTUs (7.4.3.4).
+-- (H.266 6.3.1), so its corner is on the grid of CTUs (7.4.3.4). The contract of `fit_regions` relies on it.
 use Rattle.std.specs.Prelude.{◌≡◌, ℕ, ◌+◌, ◌/◌, ◌%◌, ◌<◌, ◌≤◌, ◌⊎◌, Bool, true, ◌&&◌, nat_le, nat_lt, max, List, [], ◌∷◌, All, Any, map}
 use Rattle.std.specs.Int.{div_ceil}
 use Rattle.std.specs.List.{AllPairs}

@@ -1,4 +1,4 @@
--- The pictures that are composed to a frame, and their regions, in CTUs. Our own.
+-- The pictures that are composed to a frame, and their regions, in CTUs. Our own. The contract of `fit_lines` relies on it.
 use Rattle.std.specs.Prelude.{◌≡◌, ℕ, ◌<◌, List, length, map}
 use Rattle.vx_layout.specs.declared.numbers.Numbers.{Numbers}
 use Rattle.vx_layout.specs.declared.rect.Rect.{Rect}

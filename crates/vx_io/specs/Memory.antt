@@ -1,4 +1,5 @@
--- The models of a memory source and of the two memory sinks. Our own.
+-- The models of a memory source and of the two memory sinks. Our own. The contracts of `MemorySource`, `MemorySink` and `GrowSink`
+-- rely on it.
 use Rattle.std.specs.Prelude.{ℕ, ◌%◌, min, max, List, [], ◌∷◌, length, slice_index}
 use Rattle.vx_io.specs.Faults.{count_after}
 

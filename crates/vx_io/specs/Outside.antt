@@ -1,5 +1,5 @@
--- What contracts may say about a source over a reader and a sink over a writer: the reader or writer inside, and the
--- number of failed calls. Our own.
+-- What contracts may say about a source over a reader and a sink over a writer: the reader or writer inside, and the number of
+-- failed calls. Our own. The contracts of `ReaderSource` and `WriterSink` rely on it.
 use Rattle.std.specs.Prelude.{ℕ}
 use Rattle.vx_io.specs.declared.outside.reader.ReaderSource.{ReaderSource}
 use Rattle.vx_io.specs.declared.outside.writer.WriterSink.{WriterSink}

@@ -1,4 +1,5 @@
--- The borders of a rectangle against the bounds of tiles, and against the borders of the picture. Our own.
+-- The borders of a rectangle against the bounds of tiles, and against the borders of the picture. Our own. Definitions and laws on
+-- frames rely on it.
 use Rattle.std.specs.Prelude.{◌≡◌, ◌↔◌, ℕ, ◌+◌, ◌<◌, ◌⊎◌, List, Contains}
 use Rattle.vx_layout.specs.declared.rect.Rect.{Rect}
 use Rattle.vx_layout.specs.Bounds.{last}

@@ -1,4 +1,5 @@
--- Tile columns and tile rows along one axis of a picture, in CTUs (H.266 6.5.1).
+-- Tile columns and tile rows along one axis of a picture, in CTUs (H.266 6.5.1). The contracts of `Bounds` and `tile_bounds` rely
+-- on it.
 use Rattle.std.specs.Prelude.{◌≡◌, ◌==◌, ℕ, ◌+◌, ◌-◌, ◌/◌, ◌%◌, ◌<◌, ◌≤◌, List, [], ◌∷◌, ◌++◌, length, sum, take, replicate, cond}
 
 -- Each number is above the one before it, the first above a (our own).

@@ -1,5 +1,5 @@
 -- The conditions under which tiles, slices and subpictures make up a picture, and the fault if they don't (H.266 6.3.1, 7.4.3.4;
--- the order of slices 7.4.8, sh_slice_address).
+-- the order of slices 7.4.8, sh_slice_address). The contract of `Layout::new` relies on it.
 use Rattle.std.specs.Prelude.{◌≡◌, ℕ, ◌+◌, ◌<◌, ◌≤◌, ◌⊎◌, true, List, All, Any, Contains, length}
 use Rattle.std.specs.List.{AllPairs}
 use Rattle.vx_layout.specs.declared.numbers.Numbers.{Numbers}

@@ -1,5 +1,5 @@
 -- A frame that is composed of pictures. Each is placed in a region, a rectangle of the frame, and its slices are moved to the
--- region's corner. The regions are the frame's subpictures. Our own.
+-- region's corner. The regions are the frame's subpictures. Our own. Laws on frames, here and in `vx_fit`, rely on it.
 use Rattle.std.specs.Prelude.{◌≡◌, ℕ, List, [], ◌∷◌, All, length, map}
 use Rattle.std.specs.List.{flat_map, zip}
 use Rattle.vx_layout.specs.declared.numbers.Numbers.{Numbers}

@@ -1,4 +1,5 @@
 -- The slice heights that are written for a tile of several slices (H.266 7.4.3.5, pps_exp_slice_height_in_ctus_minus1 + 1).
+-- Definitions of written slice lists in `vx_pps` rely on it.
 use Rattle.std.specs.Prelude.{ℕ, ◌-◌, nat_le, cond, List, length, take}
 use Rattle.vx_layout.specs.Bounds.{last}
 

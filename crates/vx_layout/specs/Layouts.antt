@@ -1,4 +1,5 @@
--- A layout seen as its numbers, and the slices of its subpictures by their addresses. Our own, except for addresses.
+-- A layout seen as its numbers, and the slices of its subpictures by their addresses. Our own, except for addresses. The contracts
+-- of `Layout` rely on it.
 use Rattle.std.specs.Prelude.{ℕ, List}
 use Rattle.std.specs.List.{slice_index_or}
 use Rattle.vx_layout.specs.declared.numbers.Numbers.{Numbers}

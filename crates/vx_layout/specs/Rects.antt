@@ -1,4 +1,5 @@
--- Rectangles of CTUs, and lists of them that represent the slices or the subpictures of a picture (H.266 6.3.1, 6.5.1).
+-- Rectangles of CTUs, and lists of them that represent the slices or the subpictures of a picture (H.266 6.3.1, 6.5.1). The
+-- contracts of `Rect`, and all definitions of layouts, rely on it.
 use Rattle.std.specs.Prelude.{◌≡◌, ◌==◌, ℕ, ◌+◌, ◌<◌, ◌≤◌, Bool, true, ◌&&◌, ◌||◌, nat_le, nat_lt, List, filter, count_by}
 use Rattle.std.specs.List.{flat_map}
 use Rattle.vx_layout.specs.declared.rect.Rect.{Rect}

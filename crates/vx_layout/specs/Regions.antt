@@ -1,4 +1,5 @@
--- Rectangles counted from a corner and moved to it, and a subpicture as a layout of its own. Our own.
+-- Rectangles counted from a corner and moved to it, and a subpicture as a layout of its own. Our own. The contract of
+-- `Layout::region` relies on it.
 use Rattle.std.specs.Prelude.{ℕ, ◌+◌, ◌-◌, ◌&&◌, nat_lt, List, [], ◌∷◌, ◌++◌, filter, map}
 use Rattle.vx_layout.specs.declared.numbers.Numbers.{Numbers}
 use Rattle.vx_layout.specs.declared.rect.Rect.{Rect}

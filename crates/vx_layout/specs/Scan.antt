@@ -1,4 +1,5 @@
--- The CTUs of a slice in their order, and its entry points (H.266 6.5.1, 7.4.8).
+-- The CTUs of a slice in their order, and its entry points (H.266 6.5.1, 7.4.8). The contract of `count_entries`, and definitions
+-- of slice headers, rely on it.
 use Rattle.std.specs.Prelude.{◌==◌, ℕ, ◌+◌, ◌-◌, Bool, ◌||◌, ◌&&◌, not, nat_le, cond, List, [], ◌∷◌, filter, map}
 use Rattle.std.specs.List.{flat_map, range_with_len}
 use Rattle.vx_layout.specs.declared.rect.Rect.{Rect}

@@ -1,4 +1,5 @@
--- Slices that a slice list can name tile by tile: whole tiles, or whole rows of one tile (H.266 6.3.1, 7.4.3.5).
+-- Slices that a slice list can name tile by tile: whole tiles, or whole rows of one tile (H.266 6.3.1, 7.4.3.5). Laws on slice
+-- lists and frames rely on it.
 use Rattle.std.specs.Prelude.{◌≡◌, ℕ, ◌+◌, ◌<◌, ◌⊎◌, true, List, All, Contains, length}
 use Rattle.std.specs.List.{slice_index_or}
 use Rattle.vx_layout.specs.declared.rect.Rect.{Rect}

@@ -1,4 +1,4 @@
--- The index of an error of `tile_bounds`. Our own.
+-- The index of an error of `tile_bounds`. Our own. The contract of `tile_bounds` relies on it.
 use Rattle.std.specs.Prelude.{ℕ}
 use Rattle.vx_layout.specs.declared.bounds.TileError.{TileError}
 use Rattle.vx_layout.specs.declared.bounds.TileError.TheVariants.{Memory, Overflow}

@@ -1,4 +1,5 @@
--- The adaptive loop filter of a header, with other ids of its sets (H.266 7.3.7). Our own, except for what the fields name.
+-- The adaptive loop filter of a header, with other ids of its sets (H.266 7.3.7). Our own, except for what the fields name. Merging
+-- relies on it.
 use Rattle.std.specs.Prelude.{◌≡◌, ◌≤◌, ◌==◌, ℕ, pos, ◌<◌, cond, filter, true, List, [], ◌∷◌, length, map, slice_index}
 use Rattle.vx_bits.specs.declared.list.Item.{Item}
 use Rattle.vx_table.specs.Depends.{has}

@@ -1,4 +1,4 @@
--- The form of a picture header (H.266 7.3.2.8).
+-- The form of a picture header (H.266 7.3.2.8). The contract of `code_header`, and those of all readers of headers, rely on it.
 use Rattle.std.specs.Prelude.{ℕ, List, [], ◌∷◌}
 use Rattle.vx_table.specs.declared.rows.Term.TheVariants.{Latest}
 use Rattle.vx_table.specs.declared.rows.Formula.TheVariants.{Plain, Both}

@@ -1,4 +1,5 @@
--- The id of the PPS to which a picture header refers, which comes before all that depends on the sets.
+-- The id of the PPS to which a picture header refers, which comes before all that depends on the sets. The contract of
+-- `read_pps_id` relies on it.
 use Rattle.std.specs.Prelude.{◌≡◌, ℕ, ℤ, Bool, List, [], ◌∷◌, length, Ok}
 use Rattle.vx_bits.specs.declared.list.Item.{Item}
 use Rattle.vx_bits.specs.Place.{Place}

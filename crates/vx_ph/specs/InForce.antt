@@ -1,4 +1,4 @@
--- The numbers of the sets in force, on which headers depend.
+-- The numbers of the sets in force, on which headers depend. Contracts of all readers and writers of headers rely on it.
 use Rattle.std.specs.Prelude.{◌≡◌, ◌≢◌, ◌≤◌, ◌<◌, ℕ, List, All, slice_set}
 use Rattle.vx_bits.specs.declared.list.Item.{Item}
 use Rattle.vx_table.specs.Scope.{fresh, loaded, joined}

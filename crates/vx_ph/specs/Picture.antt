@@ -1,4 +1,4 @@
--- A picture header as a value: what is read and what is written of it.
+-- A picture header as a value: what is read and what is written of it. The contracts of `read_ph` and `write_header` rely on it.
 use Rattle.std.specs.Prelude.{◌≡◌, ℕ, ℤ, Bool, List, [], ◌++◌, length, Result, Ok, Err}
 use Rattle.vx_bits.specs.declared.list.Item.{Item}
 use Rattle.vx_bits.specs.declared.refusal.ReadError.{ReadError}

@@ -1,4 +1,5 @@
--- The rewritten picture header: what it copies from its source, and what it states (H.266 7.3.2.8).
+-- The rewritten picture header: what it copies from its source, and what it states (H.266 7.3.2.8). The contract of `reshape_ph`
+-- relies on it.
 use Rattle.std.specs.Prelude.{◌≡◌, ℕ, ◌<◌, true, List, [], ◌∷◌, ◌++◌, Option, Some, None, IfSome}
 use Rattle.vx_bits.specs.declared.list.Item.{Item}
 use Rattle.vx_table.specs.Scope.{is_set, one_if}

@@ -1,4 +1,5 @@
--- The kind of a picture among those before it, and pictures of two streams whose counts depend on the same numbers. Our own.
+-- The kind of a picture among those before it, and pictures of two streams whose counts depend on the same numbers. Our own. Laws
+-- on edited streams, and `vx_extract` and `vx_again`, rely on it.
 use Rattle.std.specs.Prelude.{◌≡◌, true, false, List, [], ◌∷◌}
 use Rattle.vx_pic.specs.declared.kind.Kind.{Kind}
 use Rattle.vx_pic.specs.Units.{is_irap_or_gdr}

@@ -1,4 +1,5 @@
--- Steps that return a value or a refusal, one after another: the first refusal is that of all. Our own.
+-- Steps that return a value or a refusal, one after another: the first refusal is that of all. Our own. The rules on units rely on
+-- it.
 use Rattle.std.specs.Prelude.{Bool, cond, Result, Ok, Err}
 use Rattle.vx_bits.specs.declared.refusal.Refusal.{Refusal}
 

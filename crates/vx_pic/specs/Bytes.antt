@@ -1,4 +1,5 @@
--- The pictures of bytes (H.266 Annex B), and where and why the bytes are refused.
+-- The pictures of bytes (H.266 Annex B), and where and why the bytes are refused. All contracts on the pictures of a source rely on
+-- it.
 use Rattle.std.specs.Prelude.{◌≡◌, ℕ, nat_le, Bool, true, false, List, [], length, map, take, Option, Some, option_map}
 use Rattle.std.specs.Option.{option_or}
 use Rattle.vx_bits.specs.declared.refusal.Refusal.{Refusal}

@@ -1,4 +1,4 @@
--- The values in the code of counts, related to those of their definition.
+-- The values in the code of counts, related to those of their definition. The contract of `picture_order_count` relies on it.
 use Rattle.std.specs.Prelude.{ℤ, pos, ◌-ℤ◌, cond, Result, Ok, Err}
 use Rattle.vx_bits.specs.declared.refusal.Refusal.{Refusal}
 use Rattle.vx_bits.specs.declared.refusal.Refusal.TheVariants.{Structure}

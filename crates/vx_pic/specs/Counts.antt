@@ -1,4 +1,5 @@
--- Picture order count (H.266 8.3.1), and what else the kind of a picture is, from the pictures before it, the latest first.
+-- Picture order count (H.266 8.3.1), and what else the kind of a picture is, from the pictures before it, the latest first. The
+-- kinds of pictures rely on it.
 use Rattle.std.specs.Prelude.{ℕ, ◌-◌, ◌*◌, ◌^◌, ◌==◌, ◌&&◌, ◌||◌, not, nat_le, nat_lt, ℤ, pos, neg_ℤ, ◌+ℤ◌, ◌-ℤ◌, int_le, int_lt}
 use Rattle.std.specs.Prelude.{Bool, true, false, cond, List, [], ◌∷◌, Option, Some, None, find}
 use Rattle.vx_bits.specs.declared.list.Item.{Item}

@@ -1,4 +1,4 @@
--- The first difference of two decoding inputs. Our own.
+-- The first difference of two decoding inputs. Our own. The contract of `same_input` relies on it.
 use Rattle.std.specs.Prelude.{◌≡◌, ◌⊎◌, ℕ, ◌+◌, cond, List, [], ◌∷◌, ◌++◌, Option, Some, None, unwrap_or}
 use Rattle.vx_bits.specs.declared.list.Item.{Item}
 use Rattle.vx_pic.specs.declared.compare.Difference.{Difference}

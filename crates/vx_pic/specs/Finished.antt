@@ -1,4 +1,4 @@
--- That each picture that was read has what is required of a picture that is written.
+-- That each picture that was read has what is required of a picture that is written. Laws on written pictures rely on it.
 use Rattle.std.specs.Prelude.{◌≡◌, ℕ, ◌≤◌, true, false, List, [], ◌∷◌}
 use Rattle.std.specs.List.{AllByRecursion}
 use Rattle.vx_sei.specs.Sei.{spelled_length}

@@ -1,4 +1,5 @@
--- Readers of sets and headers that return what their bytes spell (H.266 7.3), or the first refusal in them.
+-- Readers of sets and headers that return what their bytes spell (H.266 7.3), or the first refusal in them. All contracts on the
+-- pictures of a source rely on it.
 use Rattle.std.specs.Prelude.{◌≡◌, ℕ, ℤ, ◌+◌, ◌*◌, Bool, true, false, List, length, drop, Result, Ok, Err}
 use Rattle.vx_annexb.specs.Places.{IsFirstFrom}
 use Rattle.vx_bits.specs.declared.list.Item.{Item}

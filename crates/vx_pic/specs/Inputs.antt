@@ -1,7 +1,8 @@
 -- The decoding input of a slice: everything that its decoding depends on, except for the pictures to which it refers, without ids
 -- and places in the frame. Left out is how a subpicture relates to its neighbours (sps_subpic_treated_as_pic_flag and
 -- sps_loop_filter_across_subpic_enabled_flag): two slices whose inputs are equal decode alike if both subpictures are the whole
--- picture, or are treated as pictures and not filtered across. H.266 has no such term: it is our own.
+-- picture, or are treated as pictures and not filtered across. H.266 has no such term: it is our own. The contract of
+-- `decoding_input`, and the promises on merging and extraction, rely on it.
 use Rattle.std.specs.Prelude.{◌≡◌, ℕ, ℤ, ◌+◌, ◌-◌, ◌*◌, ◌==◌, ◌&&◌, ◌||◌, min, nat_lt, Bool, cond, List, [], ◌∷◌, ◌++◌, length, map, filter}
 use Rattle.std.specs.Prelude.{drop, Option, None, option_map, option_and_then, option_to_list}
 use Rattle.vx_bits.specs.declared.list.Item.{Item}

@@ -1,5 +1,5 @@
 -- The pictures of several streams, one stream after another, joined after ends of sequence. Lists of pictures have the latest
--- first. Our own.
+-- first. Our own. The promises on joined files rely on it.
 use Rattle.std.specs.Prelude.{◌≡◌, ℕ, ◌+◌, ◌<◌, ◌==◌, ◌&&◌, ◌||◌, not, Bool, true, false, cond, List, [], ◌∷◌, ◌++◌, length}
 use Rattle.std.specs.List.{AllByRecursion}
 use Rattle.vx_pic.specs.Sets.{is_non_ref}

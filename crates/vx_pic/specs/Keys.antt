@@ -1,4 +1,4 @@
--- The sets of a picture, as they are compared with another's (our own).
+-- The sets of a picture, as they are compared with another's (our own). The contracts of `SetsKey` rely on it.
 use Rattle.std.specs.Prelude.{List}
 use Rattle.vx_bits.specs.declared.list.Item.{Item}
 

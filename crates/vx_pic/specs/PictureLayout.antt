@@ -1,4 +1,5 @@
--- The layout of a picture and the ids of its subpictures, from its two sets (H.266 6.3.1, 6.5.1, 7.4.3.4, 7.4.3.5).
+-- The layout of a picture and the ids of its subpictures, from its two sets (H.266 6.3.1, 6.5.1, 7.4.3.4, 7.4.3.5). The contracts
+-- of `picture_layout` and `picture_ids` rely on it.
 use Rattle.std.specs.Prelude.{◌≡◌, ℕ, ◌+◌, ◌^◌, ◌==◌, ◌&&◌, ◌||◌, not, nat_lt, Bool, true, false, cond, List, [], ◌∷◌, map}
 use Rattle.std.specs.Prelude.{unwrap_or, Result, Ok, Err}
 use Rattle.std.specs.List.{range_with_len, AllPairs}

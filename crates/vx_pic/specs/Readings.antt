@@ -1,5 +1,5 @@
 -- What units are read as, and the state that follows at a place: `before` is the list of what the units before it were read as, the
--- latest first. Our own.
+-- latest first. Our own. All definitions of pictures rely on it.
 use Rattle.std.specs.Prelude.{ℕ, ◌==◌, ◌&&◌, not, Bool, true, false, cond, List, [], ◌∷◌, ◌++◌, length, Option, Some, None}
 use Rattle.std.specs.Option.{option_or}
 use Rattle.vx_bits.specs.declared.list.Item.{Item}

@@ -1,4 +1,5 @@
--- Pictures that are written one after another: which sets are sent with each, and that all are read again. Our own.
+-- Pictures that are written one after another: which sets are sent with each, and that all are read again. Our own. Contracts of
+-- all writers of streams rely on it.
 use Rattle.std.specs.Prelude.{◌≡◌, ◌⊎◌, ℕ, ◌+◌, ◌==◌, ◌&&◌, ◌≤◌, Bool, true, false, not, cond, List, [], ◌∷◌, ◌++◌, length, filter}
 use Rattle.std.specs.Prelude.{sum_by, nat_le, Option, Some, None}
 use Rattle.std.specs.Option.{option_or}

@@ -1,5 +1,6 @@
 -- How a unit is read after those before it, rule by rule in the order in which they are tried, whatever sets and headers are read
--- as. The order is our own; each rule cites the clause that it restates, and the others are our own.
+-- as. The order is our own; each rule cites the clause that it restates, and the others are our own. All definitions of pictures
+-- rely on it.
 use Rattle.std.specs.Prelude.{ℕ, ◌+◌, ◌^◌, ◌==◌, ◌&&◌, not, nat_le, nat_lt, Bool, cond, List, [], ◌∷◌, ◌++◌, length, sum_by}
 use Rattle.std.specs.Prelude.{Option, Some, None, is_none, ok_or, Result, Ok, Err}
 use Rattle.vx_bits.specs.declared.list.Item.{Item}

@@ -1,4 +1,4 @@
--- The decoding inputs in the code, related to those of their definition.
+-- The decoding inputs in the code, related to those of their definition. The contract of `decoding_input` relies on it.
 use Rattle.std.specs.Prelude.{map, option_map, option_copied}
 use Rattle.vx_pic.specs.declared.in_force.AlfInForce.{AlfInForce}
 use Rattle.vx_pic.specs.declared.input.DecodingInput.{DecodingInput}

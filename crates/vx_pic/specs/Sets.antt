@@ -1,4 +1,5 @@
--- Parameter sets and headers as lists of their items, and what they say of a picture and its slices.
+-- Parameter sets and headers as lists of their items, and what they say of a picture and its slices. All definitions of pictures
+-- rely on it.
 use Rattle.std.specs.Prelude.{ℕ, ℤ, pos, neg_ℤ, ◌+◌, ◌+ℤ◌, ◌*◌, ◌^◌, ◌==◌, ◌&&◌, int_le, Bool, true, false, cond, List, [], ◌∷◌, ◌++◌}
 use Rattle.std.specs.Prelude.{length, map, filter, take, Option, Some, None, unwrap_or}
 use Rattle.std.specs.Ordering.{int_eq}

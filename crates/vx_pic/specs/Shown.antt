@@ -1,4 +1,4 @@
--- The fields of the structure that a unit contains, for display. Our own.
+-- The fields of the structure that a unit contains, for display. Our own. Contracts on the display of fields rely on it.
 use Rattle.std.specs.Prelude.{List, [], Some, None}
 use Rattle.vx_bits.specs.declared.list.Item.{Item}
 use Rattle.vx_pic.specs.declared.structure.Structure.{Structure}

@@ -1,4 +1,4 @@
--- The pictures of a list of units, and its ending. Our own.
+-- The pictures of a list of units, and its ending. Our own. The pictures of bytes rely on it.
 use Rattle.std.specs.Prelude.{ℕ, cond, List, [], ◌∷◌, Option, Some, None, Result, Ok, Err}
 use Rattle.std.specs.Option.{option_or}
 use Rattle.vx_bits.specs.declared.refusal.Refusal.{Refusal}

@@ -1,4 +1,5 @@
--- The pictures of the sublayers up to a TemporalId (H.266 C.6). Lists of pictures have the latest first.
+-- The pictures of the sublayers up to a TemporalId (H.266 C.6). Lists of pictures have the latest first. Extraction of sublayers
+-- relies on it.
 use Rattle.std.specs.Prelude.{◌≡◌, ℕ, nat_le, false, List, filter}
 use Rattle.std.specs.List.{AllByRecursion}
 use Rattle.vx_pic.specs.Units.{is_irap_or_gdr}

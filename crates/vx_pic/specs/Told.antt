@@ -1,4 +1,4 @@
--- The result for a unit that was read. Our own.
+-- The result for a unit that was read. Our own. The contracts of `Assembler` rely on it.
 use Rattle.std.specs.Prelude.{cond, List, ◌∷◌}
 use Rattle.vx_pic.specs.declared.accepted.Accepted.{Accepted}
 use Rattle.vx_pic.specs.declared.accepted.Accepted.TheVariants as accepted

@@ -1,4 +1,5 @@
--- What slices are read under, from the picture header and the sets in force. Our own.
+-- What slices are read under, from the picture header and the sets in force. Our own. Definitions of slices that are read rely on
+-- it.
 use Rattle.std.specs.Prelude.{ℕ}
 use Rattle.vx_rpl.specs.HeaderLists.{lists_of}
 use Rattle.vx_ph.specs.declared.header.PictureHeader.{PictureHeader}

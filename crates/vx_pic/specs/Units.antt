@@ -1,4 +1,4 @@
--- A NAL unit, as its bytes, and what is checked before it is read (H.266 7.3.1, 7.4.2.2).
+-- A NAL unit, as its bytes, and what is checked before it is read (H.266 7.3.1, 7.4.2.2). All definitions of pictures rely on it.
 use Rattle.std.specs.Prelude.{ℕ, ◌-◌, ◌==◌, ◌||◌, nat_le, Bool, cond, List, drop, slice_index}
 use Rattle.vx_annexb.specs.Emulation.{unescaped}
 use Rattle.vx_annexb.specs.NalUnit.{nuh_reserved_zero_bit, nuh_temporal_id_plus1}

@@ -1,4 +1,5 @@
 -- The sets and slices of the pictures of units: sets that were read, and for each subpicture the slices of its layout. Our own.
+-- Extraction relies on it.
 use Rattle.std.specs.Prelude.{◌≡◌, ℕ, ◌<◌, ◌==◌, List, length, map, filter, Ok}
 use Rattle.std.specs.List.{AllByRecursion, range_with_len}
 use Rattle.vx_layout.specs.Layouts.{slices_in}

@@ -1,4 +1,5 @@
--- A picture as units that are written, and the requirements for reading them as that picture. Our own.
+-- A picture as units that are written, and the requirements for reading them as that picture. Our own. Contracts of all writers of
+-- streams rely on it.
 use Rattle.std.specs.Prelude.{◌≡◌, ℕ, ◌+◌, ◌≤◌, ◌<◌, Bool, true, false, cond, List, [], ◌∷◌, ◌++◌, length, map, sum_by, option_to_list}
 use Rattle.std.specs.Prelude.{Option, Some, None, is_none, Ok}
 use Rattle.std.specs.List.{AllByRecursion}

@@ -1,5 +1,5 @@
 -- Slices of a picture as a slice list describes them: groups, each a slice of whole tiles or the slices of one tile (H.266 7.3.2.5,
--- 7.4.3.5, 6.5.1).
+-- 7.4.3.5, 6.5.1). Definitions of written slice lists rely on it.
 use Rattle.std.specs.Prelude.{◌≡◌, ◌==◌, ℕ, ◌+◌, ◌-◌, ◌*◌, ◌<◌, ◌≤◌, ◌||◌, Bool, false, List, [], ◌∷◌, ◌++◌, All, length, sum}
 use Rattle.std.specs.List.{AllPairs}
 use Rattle.vx_layout.specs.declared.rect.Rect.{Rect}

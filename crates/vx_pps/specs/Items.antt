@@ -1,4 +1,5 @@
--- How items are applied to a form: the values that they give its fields, and where these lead. Our own.
+-- How items are applied to a form: the values that they give its fields, and where these lead. Our own. Definitions of what a set's
+-- items say rely on it.
 use Rattle.std.specs.Prelude.{ℤ, pos, Bool, true, false, List, [], ◌∷◌, Option, Some, None}
 use Rattle.vx_bits.specs.declared.list.Item.{Item}
 use Rattle.vx_table.specs.Forms.{Form, done, field, has_value}

@@ -1,4 +1,5 @@
--- The tiles and slices of a picture parameter set: its fields between the subpicture ids and the tools (H.266 7.3.2.5, 6.5.1).
+-- The tiles and slices of a picture parameter set: its fields between the subpicture ids and the tools (H.266 7.3.2.5, 6.5.1). The
+-- definition of a set's form relies on it.
 use Rattle.std.specs.Prelude.{◌==◌, ℕ, pos, ◌+◌, ◌*◌, ◌^◌, min, nat_lt, Bool, false, cond, is_some, List, [], Option, None}
 use Rattle.std.specs.Int.{div_ceil}
 use Rattle.vx_bits.specs.declared.rules.TheConstants.{TOO_MANY_SLICES, RASTER_SCAN_SLICES}

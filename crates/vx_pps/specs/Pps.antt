@@ -1,4 +1,5 @@
--- A picture parameter set: its form, and what its items say (H.266 7.3.2.5, 7.4.3.5).
+-- A picture parameter set: its form, and what its items say (H.266 7.3.2.5, 7.4.3.5). The contracts of `Pps`, `read_pps` and
+-- `write_pps` rely on it.
 use Rattle.std.specs.Prelude.{◌≡◌, ℕ, not, Bool, List, [], ◌∷◌, ◌++◌, Option, Some, None, Result, Ok, Err, slice_index}
 use Rattle.vx_bits.specs.declared.list.Item.{Item}
 use Rattle.vx_bits.specs.declared.refusal.ReadError.{ReadError}

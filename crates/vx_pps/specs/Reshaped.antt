@@ -1,4 +1,5 @@
--- The rewritten picture parameter set: what it copies from its source, and what it states (H.266 7.3.2.5).
+-- The rewritten picture parameter set: what it copies from its source, and what it states (H.266 7.3.2.5). The contract of
+-- `reshape_pps` relies on it.
 use Rattle.std.specs.Prelude.{◌≡◌, ◌==◌, ℕ, ℤ, pos, ◌+◌, ◌-◌, ◌*◌, ◌^◌, ◌<◌, ◌≤◌, ◌≤ℤ◌, ◌%◌, neg_ℤ, Bool, true, false, cond, ◌&&◌, ◌||◌, nat_lt}
 use Rattle.std.specs.Prelude.{List, [], ◌∷◌, ◌++◌, length, Option, Some, None, IfSome}
 use Rattle.std.specs.Int.{div_ceil}

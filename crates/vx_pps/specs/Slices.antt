@@ -1,5 +1,5 @@
--- The slice list of a picture parameter set: its fields in order, and the rectangles of its slices (H.266 7.3.2.5, 7.4.3.5,
--- 6.5.1).
+-- The slice list of a picture parameter set: its fields in order, and the rectangles of its slices (H.266 7.3.2.5, 7.4.3.5, 6.5.1).
+-- The definition of a set's form relies on it.
 use Rattle.std.specs.Prelude.{◌==◌, ℕ, pos, zero, suc, ◌+◌, ◌-◌, ◌*◌, neg_ℤ, ◌+ℤ◌, ◌&&◌, nat_le, nat_lt, Bool, false, cond}
 use Rattle.std.specs.Prelude.{List, [], ◌∷◌, ◌++◌, length, Option, Some, None}
 use Rattle.std.specs.Int.{div_ceil}

@@ -1,4 +1,4 @@
--- The tiles of a picture, by their index (H.266 6.5.1), and rectangles of whole tiles.
+-- The tiles of a picture, by their index (H.266 6.5.1), and rectangles of whole tiles. The contracts of `Tiles` rely on it.
 use Rattle.std.specs.Prelude.{◌==◌, ℕ, ◌+◌, ◌-◌, ◌*◌, ◌/◌, ◌%◌, ◌^◌, ◌<◌, ◌≤◌, length, slice_index, cond}
 use Rattle.vx_layout.specs.declared.rect.Rect.{Rect}
 use Rattle.vx_pps.specs.declared.tiles.Tiles.{Tiles}

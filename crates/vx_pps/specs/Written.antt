@@ -1,4 +1,5 @@
--- How tile sizes and groups of slices are written: the items of their fields, in the order of H.266 7.3.2.5.
+-- How tile sizes and groups of slices are written: the items of their fields, in the order of H.266 7.3.2.5. Definitions of
+-- rewritten sets rely on it.
 use Rattle.std.specs.Prelude.{◌≡◌, ◌==◌, ℕ, ℤ, pos, ◌+◌, ◌-◌, Bool, false, cond, List, [], ◌∷◌, ◌++◌, length}
 use Rattle.std.specs.Prelude.{neg_ℤ, ◌+ℤ◌}
 use Rattle.vx_bits.specs.declared.list.Item.{Item}

@@ -1,4 +1,4 @@
--- The bits of items of the structures, in their order.
+-- The bits of items of the structures, in their order. The contract of `write_run` relies on it.
 use Rattle.std.specs.Prelude.{◌≡◌, ℕ, ℤ, ◌+◌, min, nat_lt, Bool, cond, Option, Some, None}
 use Rattle.std.specs.Prelude.{List, [], ◌∷◌, ◌++◌, length, take, replicate, slice_set, slice_index_or}
 use Rattle.vx_bits.specs.Codes.{zeros_from}

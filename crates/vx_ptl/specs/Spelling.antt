@@ -1,4 +1,4 @@
--- How items of whole structures are spelled, one structure after another.
+-- How items of whole structures are spelled, one structure after another. The contract of `write_run` relies on it.
 use Rattle.std.specs.Prelude.{◌≡◌, ℕ, ℤ, ◌-◌, ◌+◌, ◌≤◌, Bool, List, [], ◌++◌, length, All}
 use Rattle.vx_bits.specs.declared.list.Item.{Item}
 use Rattle.vx_table.specs.Forms.{Form, form_of}

@@ -1,4 +1,4 @@
--- The forms of the structures, at the numbers on which they depend.
+-- The forms of the structures, at the numbers on which they depend. The contracts of `read_ptl` and the other readers rely on it.
 use Rattle.std.specs.Prelude.{ℕ, Bool, List, slice_set}
 use Rattle.vx_bits.specs.declared.list.Item.{Item}
 use Rattle.vx_table.specs.Scope.{fresh, loaded, one_if}

@@ -1,4 +1,5 @@
--- What lists, structures and weights depend on and leave in the scope, and which items determine the lists. Our own.
+-- What lists, structures and weights depend on and leave in the scope, and which items determine the lists. Our own. Laws of this
+-- crate and of `vx_ph` rely on it.
 use Rattle.std.specs.Prelude.{◌≡◌, ℕ, zero, suc, ◌+◌, Bool, true, ◌&&◌, not, IsTrue, List, [], ◌∷◌, ◌++◌}
 use Rattle.vx_bits.specs.declared.list.Item.{Item}
 use Rattle.vx_table.specs.declared.rows.Row.{Row}

@@ -1,4 +1,5 @@
--- What the items of a header determine: the entries of its two reference picture lists (H.266 7.4.10).
+-- What the items of a header determine: the entries of its two reference picture lists (H.266 7.4.10). The contract of
+-- `resolve_lists` relies on it.
 use Rattle.std.specs.Prelude.{ℕ, Bool, true, false, cond, ◌&&◌, ◌||◌, ◌==◌, nat_le, nat_lt, Option, None, Some, List, [], ◌∷◌}
 use Rattle.std.specs.Prelude.{length, take, filter, slice_get, slice_index}
 use Rattle.vx_bits.specs.declared.list.Item.{Item}

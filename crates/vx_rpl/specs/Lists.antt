@@ -1,4 +1,5 @@
--- The forms of reference picture lists (H.266 7.3.9), of their structures (7.3.10) and of prediction weights (7.3.8).
+-- The forms of reference picture lists (H.266 7.3.9), of their structures (7.3.10) and of prediction weights (7.3.8). The contract
+-- of `code_lists`, and definitions of headers, rely on it.
 use Rattle.std.specs.Prelude.{ℕ, Bool, true, false, Option, None, Some, cond, List, [], ◌∷◌, ◌==◌}
 use Rattle.std.specs.Prelude.{length, count_by, slice_get, slice_index, slice_set}
 use Rattle.vx_table.specs.declared.rows.Term.TheVariants.{Number, Latest}

@@ -1,4 +1,5 @@
 -- The scopes at which reference picture list structures and weights are read: the numbers of parameter sets on which they depend.
+-- The contracts of `read_struct` and the other readers and writers rely on it.
 use Rattle.std.specs.Prelude.{ℕ, ◌-◌, List, slice_index, slice_set}
 use Rattle.vx_table.specs.Scope.{fresh, one_if}
 use Rattle.vx_fields.specs.declared.names.rpl.TheConstants.{NUM_STRUCTURES, STRUCTURE, ENTRIES_0, ENTRIES_1, ACTIVE_0, ACTIVE_1}

@@ -1,4 +1,5 @@
--- What the items of reference picture list structures determine: entries with their numbers (H.266 7.4.11).
+-- What the items of reference picture list structures determine: entries with their numbers (H.266 7.4.11). The contract of
+-- `RplTable::new` relies on it.
 use Rattle.std.specs.Prelude.{ℕ, ◌+◌, Bool, cond, ◌&&◌, ◌||◌, ◌==◌, nat_le, nat_lt, Option, None, Some, List, [], ◌∷◌, take, filter}
 use Rattle.vx_bits.specs.declared.list.Item.{Item}
 use Rattle.vx_table.specs.Scope.{natural, capped, is_set}

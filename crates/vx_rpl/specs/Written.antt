@@ -1,4 +1,5 @@
--- The answer of a writer of the items of one value, all of which it takes.
+-- The answer of a writer of the items of one value, all of which it takes. The contract of `write_struct` and the other writers
+-- rely on it.
 use Rattle.std.specs.Prelude.{◌≡◌, ℕ, ℤ, ◌==◌, Bool, false, List, [], ◌∷◌, ◌++◌, length, OnOk, Result, Ok, Err}
 use Rattle.vx_bits.specs.declared.list.Item.{Item}
 use Rattle.vx_table.specs.declared.writer.SpellError.{SpellError}

@@ -1,4 +1,5 @@
--- SEI messages and their RBSP (H.266 7.3.2.9, 7.3.6). A message's type and its payload may have any size.
+-- SEI messages and their RBSP (H.266 7.3.2.9, 7.3.6). A message's type and its payload may have any size. The contracts of
+-- `read_sei` and `write_sei` rely on it.
 use Rattle.std.specs.Prelude.{◌≡◌, ◌⊎◌, ℕ, ◌/◌, ◌%◌, ◌<◌, ◌==◌, ◌||◌, Bool, List, [], ◌∷◌, ◌++◌, filter, flat_map, length, replicate}
 use Rattle.vx_sei.specs.declared.message.Message.{Message}
 

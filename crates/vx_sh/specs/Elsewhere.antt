@@ -1,5 +1,5 @@
 -- The same slice header at another place: under sets, a picture header and a layout that agree on what it depends on. Its
--- subpicture may have another index among others there.
+-- subpicture may have another index among others there. Extraction (`vx_extract`) relies on it.
 use Rattle.std.specs.Prelude.{◌≡◌, ℕ, ◌<◌, Bool, not, List, [], ◌∷◌, filter, length}
 use Rattle.vx_table.specs.Depends.{has, Agree}
 use Rattle.vx_table.specs.Loaded.{number}

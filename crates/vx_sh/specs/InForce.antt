@@ -1,5 +1,5 @@
 -- What a slice header is read and written under: the sets, the picture header, the layout and the NAL unit's type in force. Our
--- own.
+-- own. The contracts of `read_sh` and `write_sh` rely on it.
 use Rattle.std.specs.Prelude.{◌≡◌, ◌≤◌, ◌<◌, ℕ, IsFalse, List, [], ◌∷◌, All, length, slice_set}
 use Rattle.vx_bits.specs.declared.list.Item.{Item}
 use Rattle.vx_table.specs.Scope.{fresh, loaded, joined}

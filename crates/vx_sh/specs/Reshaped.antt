@@ -1,4 +1,5 @@
--- The rewritten slice header: what it copies from its source, and what it states (H.266 7.3.7).
+-- The rewritten slice header: what it copies from its source, and what it states (H.266 7.3.7). The contract of `SliceSender::send`
+-- relies on it.
 use Rattle.std.specs.Prelude.{◌≡◌, ℕ, ℤ, ◌+◌, ◌^◌, ◌<◌, ◌==◌, Bool, true, false, not, List, [], ◌∷◌, ◌++◌, filter, length}
 use Rattle.vx_bits.specs.declared.list.Item.{Item}
 use Rattle.vx_bits.specs.Codes.{IsCodeNumber, code_number}

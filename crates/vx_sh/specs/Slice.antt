@@ -1,4 +1,4 @@
--- The form of a slice header after the id of its subpicture (H.266 7.3.7).
+-- The form of a slice header after the id of its subpicture (H.266 7.3.7). The contract of `code_rest` relies on it.
 use Rattle.std.specs.Prelude.{ℕ, List, [], ◌∷◌, ◌++◌, slice_index, slice_set}
 use Rattle.vx_table.specs.declared.rows.Term.TheVariants.{Latest}
 use Rattle.vx_table.specs.declared.rows.Formula.TheVariants.{Plain}

@@ -1,4 +1,4 @@
--- A slice header as a value: what is read and what is written of it. Our own.
+-- A slice header as a value: what is read and what is written of it. Our own. The contracts of `read_sh` and `write_sh` rely on it.
 use Rattle.std.specs.Prelude.{◌≡◌, ℕ, ℤ, ◌+◌, ◌*◌, ◌<◌, Bool, true, false, List, [], ◌++◌, length, nat_le, take, drop, slice_index, Result, Ok, Err}
 use Rattle.vx_bits.specs.declared.list.Item.{Item}
 use Rattle.vx_bits.specs.declared.refusal.ReadError.{ReadError}

@@ -1,5 +1,5 @@
 -- The form of a slice header from its first bit on (H.266 7.3.7): the picture header that may be inside it, its subpicture, and
--- what is after.
+-- what is after. The definition of what a reader of slice headers returns relies on it.
 use Rattle.std.specs.Prelude.{ℕ, ◌+◌, Bool, cond, ◌&&◌, ◌==◌, nat_lt, List, [], ◌∷◌, length, slice_index, slice_set}
 use Rattle.vx_table.specs.declared.rows.Term.TheVariants.{Latest}
 use Rattle.vx_table.specs.declared.rows.Formula.TheVariants.{Plain}

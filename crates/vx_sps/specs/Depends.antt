@@ -1,4 +1,5 @@
--- The kept fields of a set, and what they depend on. Our own.
+-- The kept fields of a set, and what they depend on. Our own. The contract of `keep_sps`, and definitions of kept fields, rely on
+-- it.
 use Rattle.std.specs.Prelude.{◌≡◌, ℕ, ℤ, List, [], ◌∷◌, ◌++◌}
 use Rattle.vx_bits.specs.declared.list.Item.{Item}
 use Rattle.vx_fields.specs.declared.names.rpl.TheConstants.{NUM_STRUCTURES, STRUCTURE, IN_SPS, IN_HEADER, MAY_WEIGHT, ENTRY, MAY_BE_0}

@@ -1,4 +1,5 @@
--- The rewritten sequence parameter set: what it copies from its source, and what it states (H.266 clause 7.3.2.4).
+-- The rewritten sequence parameter set: what it copies from its source, and what it states (H.266 clause 7.3.2.4). The contract of
+-- `reshape_sps` relies on it.
 use Rattle.std.specs.Prelude.{◌≡◌, ℕ, pos, ◌+◌, ◌-◌, ◌^◌, ◌<◌, ◌≤◌, ◌%◌, max, Bool, not, ◌&&◌, ◌||◌, nat_lt, All}
 use Rattle.std.specs.Prelude.{List, [], ◌∷◌, ◌++◌, length, replicate, slice_index, slice_index_or, Option, Some, None, IfSome}
 use Rattle.vx_bits.specs.Codes.{IsCodeNumber}

@@ -1,4 +1,5 @@
--- A sequence parameter set as its items, what these say of its pictures, and how it is spelled.
+-- A sequence parameter set as its items, what these say of its pictures, and how it is spelled. The contracts of `Sps` and
+-- `write_sps` rely on it.
 use Rattle.std.specs.Prelude.{◌≡◌, ◌⊎◌, ℕ, ℤ, ◌+◌, ◌^◌, Bool, ◌&&◌, ◌||◌, ◌==◌, ◌≤◌, List}
 use Rattle.std.specs.Prelude.{[], ◌++◌, count_by, length, Result, Ok, Err}
 use Rattle.vx_bits.specs.Codes.{bits_of}

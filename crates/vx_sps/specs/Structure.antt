@@ -1,4 +1,4 @@
--- The form of a sequence parameter set (H.266 clause 7.3.2.4).
+-- The form of a sequence parameter set (H.266 clause 7.3.2.4). The contracts of `read_sps` and `code_sps` rely on it.
 use Rattle.std.specs.Prelude.{ℕ, ◌++◌, List, [], ◌∷◌}
 use Rattle.vx_table.specs.declared.rows.Term.TheVariants.{Latest}
 use Rattle.vx_table.specs.declared.rows.Formula.TheVariants.{Plain}

@@ -1,4 +1,4 @@
--- The subpictures of a set's pictures (H.266 7.4.3.4), from its items.
+-- The subpictures of a set's pictures (H.266 7.4.3.4), from its items. The contracts of `Sps` rely on it.
 use Rattle.std.specs.Prelude.{ℕ, ◌+◌, ◌-◌, ◌*◌, ◌/◌, ◌%◌, max, Bool, cond, ◌==◌, nat_lt}
 use Rattle.std.specs.Prelude.{List, length, slice_index, slice_index_or}
 use Rattle.vx_bits.specs.declared.list.Item.{Item}

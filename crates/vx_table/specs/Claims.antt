@@ -1,5 +1,5 @@
 -- Tests over rows of what structures depend on. Their laws say what a positive result implies, so a reader need not believe how the
--- tests work.
+-- tests work. The contract of `depends_only_on` relies on them.
 use Rattle.std.specs.Prelude.{ℕ, zero, suc, ◌-◌, min, Bool, true, false, cond, not, ◌&&◌, ◌||◌, List, [], ◌∷◌, ◌++◌, length, take}
 use Rattle.vx_table.specs.declared.rows.Term.{Term}
 use Rattle.vx_table.specs.declared.rows.Term.TheVariants.{Number, Latest}

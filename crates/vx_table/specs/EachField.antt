@@ -1,4 +1,4 @@
--- Facts that hold for each field of a form, and a test of them over the rows of tables. Our own.
+-- Facts that hold for each field of a form, and a test of them over the rows of tables. Our own. Laws on tables rely on it.
 use Rattle.std.specs.Prelude.{ℕ, ℤ, Bool, true, ◌&&◌, List, [], ◌∷◌}
 use Rattle.vx_table.specs.declared.rows.Cell.{Cell}
 use Rattle.vx_table.specs.declared.rows.Row.{Row}

@@ -1,5 +1,5 @@
 -- The meaning of a table: the fields in order, each with its coding and range, and after each value how it goes on (H.266 7.1,
--- 7.2).
+-- 7.2). All definitions of syntax structures rely on it.
 use Rattle.std.specs.Prelude.{ℕ, ℤ, zero, suc, ◌+◌, ◌-◌, min, Bool, true, false, cond, ◌==◌, List, [], ◌∷◌, length, slice_set, Option}
 use Rattle.std.specs.Prelude.{Some, None, ◌&&◌}
 use Rattle.std.specs.Option.{option_or}

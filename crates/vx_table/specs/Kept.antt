@@ -1,4 +1,5 @@
--- The kept items of a structure: those of the fields that stay unchanged when it is rewritten. Our own.
+-- The kept items of a structure: those of the fields that stay unchanged when it is rewritten. Our own. The contract of
+-- `keep_table`, and those of sets, rely on it.
 use Rattle.std.specs.Prelude.{◌≡◌, ℕ, ℤ, Bool, true, false, cond, ◌&&◌, List, [], ◌∷◌, ◌++◌, Result, Ok, Err}
 use Rattle.vx_bits.specs.declared.list.Item.{Item}
 use Rattle.vx_table.specs.declared.rows.Coding.{Coding}

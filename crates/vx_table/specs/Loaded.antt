@@ -1,4 +1,4 @@
--- The numbers that the items of a structure give its fields. Our own.
+-- The numbers that the items of a structure give its fields. Our own. Definitions of what sets and headers say rely on it.
 use Rattle.std.specs.Prelude.{◌≡◌, ℕ, ℤ, ◌<◌, ◌^◌, min, Bool, true, false, not, ◌&&◌, ◌||◌, ◌==◌, nat_lt, nat_le, IsTrue, List, [], ◌∷◌}
 use Rattle.std.specs.Prelude.{◌++◌}
 use Rattle.std.specs.Prelude.{All, slice_index}

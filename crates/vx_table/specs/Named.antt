@@ -1,5 +1,5 @@
 -- The fields and names that rows give numbers to: tables that read only given numbers and their own, and fields that only one row
--- codes. Our own.
+-- codes. Our own. Laws on syntax structures rely on it.
 use Rattle.std.specs.Prelude.{◌≢◌, ℕ, cond, List, [], ◌∷◌, ◌++◌}
 use Rattle.std.specs.List.{AllPairs}
 use Rattle.vx_table.specs.declared.rows.Presence.{Presence}

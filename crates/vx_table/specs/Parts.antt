@@ -1,4 +1,4 @@
--- A structure of several tables. Our own.
+-- A structure of several tables. Our own. Definitions of syntax structures rely on it.
 use Rattle.std.specs.Prelude.{ℕ, List, [], ◌∷◌}
 use Rattle.vx_table.specs.declared.parts.Part.{Part}
 use Rattle.vx_table.specs.declared.rows.Term.TheVariants.{Number}

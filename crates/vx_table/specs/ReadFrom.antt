@@ -1,4 +1,4 @@
--- Structures whose RBSP is known (our own).
+-- Structures whose RBSP is known (our own). Contracts of sets that store a short RBSP rely on it.
 use Rattle.std.specs.Prelude.{ℕ, List, Option, Ok, IfSome}
 use Rattle.vx_bits.specs.declared.list.Item.{Item}
 use Rattle.vx_table.specs.Forms.{Form}

@@ -1,5 +1,5 @@
 -- That a structure can be rewritten, part by part: fields of a set go through again, and others are replaced by given items. Our
--- own.
+-- own. Laws on rewritten sets and headers rely on it.
 use Rattle.std.specs.Prelude.{◌≡◌, ℕ, ℤ, ◌+◌, ◌<◌, zero, suc, Bool, true, false, ◌==◌, IsTrue, IsFalse, All, List, [], ◌∷◌, ◌++◌, length}
 use Rattle.std.specs.Prelude.{slice_set}
 use Rattle.vx_bits.specs.declared.list.Item.{Item}

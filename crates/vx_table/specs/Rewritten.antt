@@ -1,4 +1,5 @@
--- A rewritten structure: some fields as in another value of it, the others as given; and what makes it. Our own.
+-- A rewritten structure: some fields as in another value of it, the others as given; and what makes it. Our own. Contracts of
+-- rewriters of sets and headers rely on it.
 use Rattle.std.specs.Prelude.{◌≡◌, ℕ, ℤ, Bool, true, not, ◌&&◌, ◌||◌, IsTrue, List, [], ◌++◌, filter, Option, Some, None, Result, Ok, Err}
 use Rattle.std.specs.Prelude.{cond}
 use Rattle.vx_bits.specs.declared.list.Item.{Item}

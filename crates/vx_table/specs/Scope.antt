@@ -1,4 +1,5 @@
--- The latest numbers of fields and names, and the values of a row's formulas at them. Our own, except the meaning of formulas.
+-- The latest numbers of fields and names, and the values of a row's formulas at them. Our own, except the meaning of formulas. All
+-- definitions of syntax structures rely on it.
 use Rattle.std.specs.Prelude.{◌↔◌, ◌≤◌, ℕ, ℤ, pos, negsuc, zero, suc, ◌+◌, ◌-◌, ◌*◌, ◌^◌, min, Bool, cond, not, ◌&&◌, ◌||◌, ◌==◌, nat_lt}
 use Rattle.std.specs.Prelude.{nat_le, List, slice_index, [], ◌∷◌, ◌++◌, take, drop, replicate, slice_set}
 use Rattle.vx_bits.specs.declared.list.Item.{Item}

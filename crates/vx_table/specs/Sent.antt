@@ -1,4 +1,4 @@
--- A structure that is rewritten and written in one walk. Our own.
+-- A structure that is rewritten and written in one walk. Our own. The contracts of `Sender` rely on it.
 use Rattle.std.specs.Prelude.{◌≡◌, ℕ, ℤ, Bool, IsFalse, List, [], ◌∷◌, ◌++◌, length, IfOk, Result, Ok, Err}
 use Rattle.vx_bits.specs.declared.list.Item.{Item}
 use Rattle.vx_table.specs.declared.rows.Cell.{Cell}

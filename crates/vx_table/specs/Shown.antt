@@ -1,4 +1,5 @@
--- The shown fields of a structure, their items and how they are coded, and what two structures with alike forms have in common. Our own.
+-- The shown fields of a structure, their items and how they are coded, and what two structures with alike forms have in common. Our
+-- own. Laws on what sets and headers depend on rely on it.
 use Rattle.std.specs.Prelude.{◌≡◌, ℕ, ℤ, Bool, true, cond, not, ◌||◌, IsTrue, List, [], ◌∷◌, ◌++◌, filter}
 use Rattle.vx_bits.specs.declared.list.Item.{Item}
 use Rattle.vx_table.specs.declared.rows.Cell.{Cell}

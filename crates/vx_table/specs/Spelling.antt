@@ -1,4 +1,5 @@
--- How values are spelled, and where and why bits are refused, stated for forms and apart from any walk.
+-- How values are spelled, and where and why bits are refused, stated for forms and apart from any walk. All readers and writers of
+-- syntax rely on it.
 use Rattle.std.specs.Int.RustNames.{unsigned_abs}
 use Rattle.std.specs.Prelude.{◌≡◌, ◌≢◌, ℕ, ℤ, pos, negsuc, zero, suc, ◌-◌, ◌%◌, ◌^◌, ◌<◌, ◌≤◌, Bool, false, cond, ◌&&◌, ◌==◌, List, []}
 use Rattle.std.specs.Prelude.{◌∷◌, ◌++◌, length, Option, Some, None}

@@ -1,4 +1,5 @@
--- The fields without a star. They are the kept ones: a written stream has them from its source, and they are compared.
+-- The fields without a star. They are the kept ones: a written stream has them from its source, and they are compared. Definitions
+-- of kept fields rely on it.
 use Rattle.std.specs.Prelude.{ℕ, cond, List, [], ◌∷◌, ◌++◌}
 use Rattle.vx_table.specs.declared.rows.Row.{Row}
 use Rattle.vx_table.specs.declared.rows.Row.TheVariants.{Field, Block, Name}

@@ -1,4 +1,5 @@
--- The values that a field may have, how values go through a form, and how they are spelled.
+-- The values that a field may have, how values go through a form, and how they are spelled. All readers and writers of syntax rely
+-- on it.
 use Rattle.std.specs.Prelude.{◌≡◌, ℕ, ℤ, ◌+◌, Bool, List, [], ◌∷◌, ◌++◌, length, None}
 use Rattle.vx_table.specs.declared.rows.Cell.{Cell}
 use Rattle.vx_table.specs.Forms.{Form, done, field}

@@ -1,4 +1,4 @@
--- A walk over a form: the steps that a coder takes along it. Our own.
+-- A walk over a form: the steps that a coder takes along it. Our own. Contracts of all walks rely on it.
 use Rattle.std.specs.Prelude.{ℕ, ℤ, Result, Ok, Err}
 use Rattle.vx_table.specs.declared.rows.Cell.{Cell}
 use Rattle.vx_table.specs.Forms.{Form, done, field}
