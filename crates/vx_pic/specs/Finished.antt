@@ -34,6 +34,6 @@ module _ (R : Readers) where
   AreFinished [] = Unit {0}
   AreFinished (p ∷ earlier) = IsSoundPicture earlier p × (is_whole p ≡ true) × AreFinished earlier
 
--- All pictures of units are so.
+-- All pictures of units have these properties.
 abbrev pub PicturesAreFinished : Type 0
 PicturesAreFinished = (R : Readers) (units : List (List ℕ)) → AreFinished R (pictures_of R units)

@@ -7,7 +7,7 @@ use Rattle.vx_table.specs.Values.{Follows, bits_along}
 use Rattle.vx_ptl.specs.declared.tables.TheConstants.{PTL, DPB, TIMING, SUBLAYER_TIMING}
 use Rattle.vx_ptl.specs.Run.{run_bits, IsRunItem}
 
--- A structure of fields 11 to 60, at whatever scope.
+-- A structure of fields 11 to 60, at any scope.
 pub data IsStructure : Form (List ℕ) → Type 0 where
   profile_tier_level : (scope : List ℕ) → IsStructure (form_of PTL scope)
   dpb_parameters : (scope : List ℕ) → IsStructure (form_of DPB scope)
