@@ -4,7 +4,7 @@
     scripts/field_names.py [--check]
 
 The constants are the source: `pub const NAME: u16 = NUMBER;`. With --check nothing is written; the status is 1 where text.rt isn't what
-would be. The text is the names in the order of their numbers, one behind another; a list says for each number where its name begins,
+would be. The text is the names in the order of their numbers, one after another; a list says for each number where its name begins,
 which is where that of the number before it ends. A number that no field has stands for nothing.
 """
 import argparse
@@ -52,7 +52,7 @@ def made():
         places.append(places[-1] + len(named.get(number, "")))
     text = "\\\n      ".join(named[number] for number in sorted(named))
     return (
-        f"{HEAD}/// The names in the order of their numbers, one behind another.\n"
+        f"{HEAD}/// The names in the order of their numbers, one after another.\n"
         f'pub(crate) static TEXT: [u8; {places[-1]}] = *b"{text}";\n\n'
         "/// Where the name of each number begins, and where the last one ends.\n"
         f"pub(crate) static PLACES: [u16; {len(places)}] = [\n{filled(places)}\n];\n"

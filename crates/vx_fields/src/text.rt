@@ -1,6 +1,6 @@
 //! The names of all fields, as `scripts/field_names.py` makes them of the constants.
 
-/// The names in the order of their numbers, one behind another.
+/// The names in the order of their numbers, one after another.
 pub(crate) static TEXT: [u8; 9758] = *b"vps_video_parameter_set_id\
       vps_max_layers_minus1\
       vps_max_sublayers_minus1\
