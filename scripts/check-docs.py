@@ -1,7 +1,7 @@
 #!/usr/bin/env python3
 """Checks the pages: README.md, CHANGELOG.md, docs/ and what scripts make for them. Takes some seconds and needs no compiler except `cc`.
 
-    scripts/check-docs.py [--words]
+    scripts/check-docs.py [--words | --make]
 
 It checks that
 
@@ -15,10 +15,11 @@ It checks that
 - words that the style rules exclude don't stand on a page, nor in the comments of the crates of MOVED_CRATES.
 
 A fault is a line `FILE:LINE: what`. The last line is `N passed, M failed, K skipped`, and the status is 1 if anything failed. --words
-prints the words of each page and its mean sentence instead.
+prints the words of each page and its mean sentence instead, and --make runs the scripts that make pages and texts, in their order.
 """
 import argparse
 import functools
+import os
 import pathlib
 import re
 import shutil
@@ -29,6 +30,7 @@ from concurrent.futures import ThreadPoolExecutor
 
 import believed
 import page_numbers
+from case_lines import Expected
 from doc_blocks import BadPage, agrees, blocks, commands
 
 ROOT = pathlib.Path(__file__).resolve().parent.parent
@@ -54,18 +56,20 @@ PAGES = {
     "CHANGELOG.md": (None, True),
     "examples/film/README.md": (None, True),
 }
-# What makes generated pages and texts. A script that isn't there is skipped.
+# What makes generated pages and texts, each after what it reads. A script that isn't there is skipped.
 MADE = (
-    ("scripts/doc_cases.py", "crates/vx_cases/stdin and stdout"),
+    ("scripts/list-fields.sh", "docs/generated/FIELDS.md"),
+    ("scripts/field_names.py", "crates/vx_fields/src/text.rt"),
+    ("scripts/explanations.py", "crates/vx_explain/src/text.rt"),
     ("scripts/believed.py", "docs/generated/BELIEVED.md and believed/"),
     ("scripts/contracts.py", "docs/generated/CONTRACTS.md"),
-    ("scripts/list-fields.sh", "docs/generated/FIELDS.md"),
-    ("scripts/explanations.py", "crates/vx_explain/src/text.rt"),
-    ("scripts/field_names.py", "crates/vx_fields/src/text.rt"),
     ("scripts/costs-page.py", "docs/generated/COSTS.md"),
+    ("scripts/speed-chart.py", "docs/images/speed.svg, docs/generated/MEASURED.md and docs/SPEED.md"),
     ("scripts/draw-crates.py", "docs/images/crates.svg"),
-    ("scripts/speed-chart.py", "docs/images/speed.svg"),
+    ("scripts/doc_cases.py", "crates/vx_cases/stdin and stdout"),
 )
+# What --make runs too; other checks see whether it is up to date.
+ALSO_MADE = ("scripts/explain_cases.py", "scripts/numbers.py")
 # Words that stand on no page, each with what to write instead. A phrase in ALLOWED may have them anywhere, and a page in EXCEPT one of them.
 BANNED = (
     # Common words (rule 7).
@@ -534,6 +538,23 @@ def man_page(report):
     report.take("man page", [] if good else [f"scripts/man-page.py: {made.stderr.strip().split(chr(10))[-1] or 'it makes no page of --help'}"])
 
 
+def stored_texts(report):
+    """Checks that the stored answers of vx_cases to `--explain`, `--help` and `--version` are the texts of crates/."""
+    given, answers = ((ROOT / "crates/vx_cases" / name).read_text().split("\n") for name in ("stdin", "stdout"))
+    answers, settings, wrong = iter(answers), False, []
+    for number, line in enumerate(given, 1):
+        verb, _, words = line.partition(" ")
+        if verb in ("case", "pushed", "generated"):
+            answer = next(answers, "")
+            text = printed().get(words) if verb == "case" and not settings else None
+            if text and answer != Expected(out="".join(f"{one}\n" for one in text).encode()).line():
+                wrong.append(f"crates/vx_cases/stdin:{number}: the stored answer to `{words}` isn't what the program prints")
+            settings = False
+        elif verb and verb not in ("stream", "#"):
+            settings = True
+    report.take("stored texts", wrong)
+
+
 def comment_faults(crate):
     """Words in comments of a crate that stand on no page."""
     for path in sorted((ROOT / "crates" / crate).rglob("*")):
@@ -570,7 +591,12 @@ def main():
     """Checks all, or prints the sizes of pages."""
     parser = argparse.ArgumentParser(description="Checks README.md, CHANGELOG.md, docs/ and what scripts make for them.")
     parser.add_argument("--words", action="store_true", help="print the words of each page, its most, and its mean and longest sentence")
-    if parser.parse_args().words:
+    parser.add_argument("--make", action="store_true", help="run the scripts that make pages and texts")
+    asked = parser.parse_args()
+    if asked.make:
+        scripts = [script for script in (*(script for script, _ in MADE), *ALSO_MADE) if os.access(ROOT / script, os.X_OK)]
+        return max(subprocess.run([ROOT / script], cwd=ROOT, stdout=subprocess.DEVNULL).returncode for script in scripts)
+    if asked.words:
         for path in pages():
             name, counts = str(path.relative_to(ROOT)), [n for _, n, _, apart in sentences(path.read_text()) if not apart and n > 2] or [0]
             print(f"{name}\t{word_count(path.read_text())}\t{PAGES.get(name, ('',))[0] or ''}\t{sum(counts) / len(counts):.1f}\t{max(counts)}")
@@ -578,6 +604,7 @@ def main():
     report = Report()
     makers(report)
     man_page(report)
+    stored_texts(report)
     for path in pages():
         text = path.read_text()
         for name, check in CHECKS.items():
