@@ -140,7 +140,7 @@ class Report:
 
     def take(self, what, faults):
         """Counts a check, with its faults."""
-        for fault in faults:
+        for fault in dict.fromkeys(faults):
             print(fault)
         self.failed += bool(faults)
         self.passed += not faults
