@@ -1,7 +1,7 @@
 //! What `--explain` prints of rules and fields, as `scripts/explanations.py` makes it of docs/REFUSALS.md and docs/generated/FIELDS.md.
 
 /// The parts, with a bar between two. Each begins with its word and a blank, and is what is printed for this word.
-pub(crate) static TEXT: [u8; 69984] =
+pub(crate) static TEXT: [u8; 70065] =
     *b"F1 Cause: A byte outside a unit is neither zero nor part of a start code. The
    file isn't an Annex B byte stream, or begins inside a unit.
    Fix: Take the stream out of its container (MP4, TS), or cut it at a start
@@ -267,16 +267,16 @@ pub(crate) static TEXT: [u8; 69984] =
 |1 vps_video_parameter_set_id: The id of the video parameter set.
 A field of a video parameter set, clause 7.3.2.3. It isn't compared between
 streams.
-|2 vps_max_layers_minus1: The most layers, less 1.
+|2 vps_max_layers_minus1: The greatest number of layers, less 1.
 A field of a video parameter set, clause 7.3.2.3. It isn't compared between
 streams.
-|3 vps_max_sublayers_minus1: The most sublayers, less 1.
+|3 vps_max_sublayers_minus1: The greatest number of sublayers, less 1.
 A field of a video parameter set, clause 7.3.2.3. It isn't compared between
 streams.
 |11 general_profile_idc: The profile.
 A field of profile, tier and level, clause 7.3.3.1, and of its general
 constraints, clause 7.3.3.2. Only `merge` compares it, among its sources (M2).
-|12 general_tier_flag: The tier: High where it is 1.
+|12 general_tier_flag: The tier: 1 for High.
 A field of profile, tier and level, clause 7.3.3.1, and of its general
 constraints, clause 7.3.3.2. Only `merge` compares it, among its sources (M2).
 |13 general_level_idc: The level: 16 for each major number and 3 for each minor
@@ -296,7 +296,7 @@ constraints, clause 7.3.3.2. It isn't compared between streams.
 `gci_intra_only_constraint_flag` on.
 A field of profile, tier and level, clause 7.3.3.1, and of its general
 constraints, clause 7.3.3.2. It isn't compared between streams.
-|18 gci_num_additional_bits: How many further bits of constraints follow.
+|18 gci_num_additional_bits: The number of further bits of constraints.
 A field of profile, tier and level, clause 7.3.3.1, and of its general
 constraints, clause 7.3.3.2. It isn't compared between streams.
 |19 gci_reserved_bit: Each of these further bits.
@@ -310,7 +310,7 @@ constraints, clause 7.3.3.2. It isn't compared between streams.
 first.
 A field of profile, tier and level, clause 7.3.3.1, and of its general
 constraints, clause 7.3.3.2. It isn't compared between streams.
-|22 ptl_num_sub_profiles: How many sub-profiles follow.
+|22 ptl_num_sub_profiles: The number of sub-profiles.
 A field of profile, tier and level, clause 7.3.3.1, and of its general
 constraints, clause 7.3.3.2. It isn't compared between streams.
 |23 general_sub_profile_idc: A sub-profile.
@@ -319,11 +319,11 @@ constraints, clause 7.3.3.2. It isn't compared between streams.
 |31 dpb_max_dec_pic_buffering_minus1: The pictures that a decoder stores, less
 1.
 A field of DPB parameters, clause 7.3.4. It isn't compared between streams.
-|32 dpb_max_num_reorder_pics: How many pictures may be decoded before and shown
-after one.
+|32 dpb_max_num_reorder_pics: The number of pictures that may be decoded before
+a picture and shown after it.
 A field of DPB parameters, clause 7.3.4. It isn't compared between streams.
-|33 dpb_max_latency_increase_plus1: The increase of latency, plus 1; 0 where
-there is no limit.
+|33 dpb_max_latency_increase_plus1: The increase of latency, plus 1; 0 if there
+is no limit.
 A field of DPB parameters, clause 7.3.4. It isn't compared between streams.
 |41 num_units_in_tick: The units of time in a tick.
 A field of timing and HRD parameters, clauses 7.3.5.1 to 7.3.5.3. It isn't
@@ -363,8 +363,8 @@ compared between streams.
 |52 fixed_pic_rate_general_flag: Whether the rate of pictures is fixed.
 A field of timing and HRD parameters, clauses 7.3.5.1 to 7.3.5.3. It isn't
 compared between streams.
-|53 fixed_pic_rate_within_cvs_flag: Whether it is fixed within a CVS; 1 where
-it is absent.
+|53 fixed_pic_rate_within_cvs_flag: Whether it is fixed within a CVS; 1 if
+absent.
 A field of timing and HRD parameters, clauses 7.3.5.1 to 7.3.5.3. It isn't
 compared between streams.
 |54 elemental_duration_in_tc_minus1: The ticks between pictures, less 1.
@@ -396,7 +396,7 @@ streams.
 |101 sps_video_parameter_set_id: The id of its video parameter set; 0 for none.
 A field of a sequence parameter set, clause 7.3.2.4. It isn't compared between
 streams.
-|102 sps_max_sublayers_minus1: The most sublayers, less 1.
+|102 sps_max_sublayers_minus1: The greatest number of sublayers, less 1.
 A field of a sequence parameter set, clause 7.3.2.4.
 |103 sps_chroma_format_idc: The chroma format: 0 for 4:0:0, 1 for 4:2:0.
 A field of a sequence parameter set, clause 7.3.2.4.
@@ -484,7 +484,7 @@ A field of a sequence parameter set, clause 7.3.2.4. It isn't compared between
 streams.
 |130 sps_bitdepth_minus8: The bits of a sample, less 8.
 A field of a sequence parameter set, clause 7.3.2.4.
-|131 sps_entropy_coding_sync_enabled_flag: Whether entropy coding begins anew
+|131 sps_entropy_coding_sync_enabled_flag: Whether entropy coding starts again
 in each row of CTUs.
 A field of a sequence parameter set, clause 7.3.2.4.
 |132 sps_entry_point_offsets_present_flag: Whether slice headers have entry
@@ -515,13 +515,13 @@ streams.
 least luma coding block size, less 2.
 A field of a sequence parameter set, clause 7.3.2.4.
 |142 sps_partition_constraints_override_enabled_flag: Whether picture headers
-may set the limits of partitions anew.
+may have their own limits of partitions.
 A field of a sequence parameter set, clause 7.3.2.4.
 |143 sps_log2_diff_min_qt_min_cb_intra_slice_luma: Intra luma: the least
 quadtree leaf over the least coding block, in binary logarithms.
 A field of a sequence parameter set, clause 7.3.2.4.
-|144 sps_max_mtt_hierarchy_depth_intra_slice_luma: Intra luma: the most levels
-of multi-type trees.
+|144 sps_max_mtt_hierarchy_depth_intra_slice_luma: Intra luma: the greatest
+depth of multi-type trees.
 A field of a sequence parameter set, clause 7.3.2.4.
 |145 sps_log2_diff_max_bt_min_qt_intra_slice_luma: Intra luma: the largest
 binary split over the least quadtree leaf, in binary logarithms.
@@ -529,14 +529,14 @@ A field of a sequence parameter set, clause 7.3.2.4.
 |146 sps_log2_diff_max_tt_min_qt_intra_slice_luma: Intra luma: the largest
 ternary split over the least quadtree leaf, in binary logarithms.
 A field of a sequence parameter set, clause 7.3.2.4.
-|147 sps_qtbtt_dual_tree_intra_flag: Whether luma and chroma have trees of
-their own in intra slices.
+|147 sps_qtbtt_dual_tree_intra_flag: Whether luma and chroma have separate
+trees in intra slices.
 A field of a sequence parameter set, clause 7.3.2.4.
 |148 sps_log2_diff_min_qt_min_cb_intra_slice_chroma: Intra chroma: the least
 quadtree leaf over the least coding block, in binary logarithms.
 A field of a sequence parameter set, clause 7.3.2.4.
-|149 sps_max_mtt_hierarchy_depth_intra_slice_chroma: Intra chroma: the most
-levels of multi-type trees.
+|149 sps_max_mtt_hierarchy_depth_intra_slice_chroma: Intra chroma: the greatest
+depth of multi-type trees.
 A field of a sequence parameter set, clause 7.3.2.4.
 |150 sps_log2_diff_max_bt_min_qt_intra_slice_chroma: Intra chroma: the largest
 binary split over the least quadtree leaf, in binary logarithms.
@@ -547,8 +547,8 @@ A field of a sequence parameter set, clause 7.3.2.4.
 |152 sps_log2_diff_min_qt_min_cb_inter_slice: Inter slices: the least quadtree
 leaf over the least coding block, in binary logarithms.
 A field of a sequence parameter set, clause 7.3.2.4.
-|153 sps_max_mtt_hierarchy_depth_inter_slice: Inter slices: the most levels of
-multi-type trees.
+|153 sps_max_mtt_hierarchy_depth_inter_slice: Inter slices: the greatest depth
+of multi-type trees.
 A field of a sequence parameter set, clause 7.3.2.4.
 |154 sps_log2_diff_max_bt_min_qt_inter_slice: Inter slices: the largest binary
 split over the least quadtree leaf, in binary logarithms.
@@ -580,8 +580,8 @@ A field of a sequence parameter set, clause 7.3.2.4.
 |164 sps_joint_cbcr_enabled_flag: Whether chroma residuals may be coded
 jointly.
 A field of a sequence parameter set, clause 7.3.2.4.
-|165 sps_same_qp_table_for_chroma_flag: Whether there is one chroma QP table
-alone.
+|165 sps_same_qp_table_for_chroma_flag: Whether there is only one chroma QP
+table.
 A field of a sequence parameter set, clause 7.3.2.4.
 |166 sps_qp_table_start_minus26: The luma QP at which a chroma QP table begins,
 less 26.
@@ -591,8 +591,8 @@ A field of a sequence parameter set, clause 7.3.2.4.
 A field of a sequence parameter set, clause 7.3.2.4.
 |168 sps_delta_qp_in_val_minus1: The step of the luma QP to a point, less 1.
 A field of a sequence parameter set, clause 7.3.2.4.
-|169 sps_delta_qp_diff_val: The step of the chroma QP to a point, against the
-luma QP.
+|169 sps_delta_qp_diff_val: The step of the chroma QP to a point, relative to
+the luma QP.
 A field of a sequence parameter set, clause 7.3.2.4.
 |170 sps_sao_enabled_flag: Whether there is sample adaptive offset.
 A field of a sequence parameter set, clause 7.3.2.4.
@@ -616,7 +616,7 @@ A field of a sequence parameter set, clause 7.3.2.4.
 |178 sps_rpl1_same_as_rpl0_flag: Whether list 1 has the reference structures of
 list 0.
 A field of a sequence parameter set, clause 7.3.2.4.
-|179 sps_num_ref_pic_lists: How many reference structures a list has here.
+|179 sps_num_ref_pic_lists: The number of reference structures of a list.
 A field of a sequence parameter set, clause 7.3.2.4.
 |180 sps_ref_wraparound_enabled_flag: Whether motion may wrap around the
 picture.
@@ -624,7 +624,8 @@ A field of a sequence parameter set, clause 7.3.2.4.
 |181 sps_temporal_mvp_enabled_flag: Whether motion is predicted from another
 picture.
 A field of a sequence parameter set, clause 7.3.2.4.
-|182 sps_sbtmvp_enabled_flag: Whether it is predicted so for subblocks.
+|182 sps_sbtmvp_enabled_flag: Whether it is predicted in this way for
+subblocks.
 A field of a sequence parameter set, clause 7.3.2.4.
 |183 sps_amvr_enabled_flag: Whether the resolution of motion is adaptive.
 A field of a sequence parameter set, clause 7.3.2.4.
@@ -642,17 +643,18 @@ A field of a sequence parameter set, clause 7.3.2.4.
 |189 sps_mmvd_enabled_flag: Whether there is merge mode with motion
 differences.
 A field of a sequence parameter set, clause 7.3.2.4.
-|190 sps_mmvd_fullpel_only_enabled_flag: Whether these may be whole samples
-alone.
+|190 sps_mmvd_fullpel_only_enabled_flag: Whether these may only be whole
+samples.
 A field of a sequence parameter set, clause 7.3.2.4.
-|191 sps_six_minus_max_num_merge_cand: 6 less the most merge candidates.
+|191 sps_six_minus_max_num_merge_cand: 6 less the greatest number of merge
+candidates.
 A field of a sequence parameter set, clause 7.3.2.4.
 |192 sps_sbt_enabled_flag: Whether there are subblock transforms.
 A field of a sequence parameter set, clause 7.3.2.4.
 |193 sps_affine_enabled_flag: Whether there is affine motion.
 A field of a sequence parameter set, clause 7.3.2.4.
-|194 sps_five_minus_max_num_subblock_merge_cand: 5 less the most subblock merge
-candidates.
+|194 sps_five_minus_max_num_subblock_merge_cand: 5 less the greatest number of
+subblock merge candidates.
 A field of a sequence parameter set, clause 7.3.2.4.
 |195 sps_6param_affine_enabled_flag: Whether affine motion may have six
 parameters.
@@ -673,8 +675,8 @@ prediction.
 A field of a sequence parameter set, clause 7.3.2.4.
 |201 sps_gpm_enabled_flag: Whether there is geometric partition.
 A field of a sequence parameter set, clause 7.3.2.4.
-|202 sps_max_num_merge_cand_minus_max_num_gpm_cand: The most merge candidates
-less the most of geometric partition.
+|202 sps_max_num_merge_cand_minus_max_num_gpm_cand: The greatest number of
+merge candidates less that of geometric partition.
 A field of a sequence parameter set, clause 7.3.2.4.
 |203 sps_log2_parallel_merge_level_minus2: The binary logarithm of the parallel
 merge level, less 2.
@@ -702,8 +704,8 @@ less 4, in sixths.
 A field of a sequence parameter set, clause 7.3.2.4.
 |212 sps_ibc_enabled_flag: Whether there is intra block copy.
 A field of a sequence parameter set, clause 7.3.2.4.
-|213 sps_six_minus_max_num_ibc_merge_cand: 6 less the most merge candidates of
-intra block copy.
+|213 sps_six_minus_max_num_ibc_merge_cand: 6 less the greatest number of merge
+candidates of intra block copy.
 A field of a sequence parameter set, clause 7.3.2.4.
 |214 sps_ladf_enabled_flag: Whether deblocking adapts to luma.
 A field of a sequence parameter set, clause 7.3.2.4.
@@ -750,14 +752,14 @@ streams.
 A field of a sequence parameter set, clause 7.3.2.4.
 |231 sps_rbsp_trailing_bits: The trailing bits of a sequence parameter set.
 A field of a sequence parameter set, clause 7.3.2.4.
-|301 num_ref_entries: How many entries a structure has.
+|301 num_ref_entries: The number of entries of a structure.
 A field of reference picture lists, clause 7.3.9, and of their structures,
 clause 7.3.10.
 |302 ltrp_in_header_flag: Whether the low bits of its long-term entries are in
 headers.
 A field of reference picture lists, clause 7.3.9, and of their structures,
 clause 7.3.10.
-|303 st_ref_pic_flag: Whether an entry is short-term; 1 where it is absent.
+|303 st_ref_pic_flag: Whether an entry is short-term; 1 if absent.
 A field of reference picture lists, clause 7.3.9, and of their structures,
 clause 7.3.10.
 |304 abs_delta_poc_st: The distance of a short-term entry.
@@ -772,7 +774,7 @@ clause 7.3.10.
 |307 rpl_sps_flag: Whether a list is a structure of the SPS.
 A field of reference picture lists, clause 7.3.9, and of their structures,
 clause 7.3.10.
-|308 rpl_idx: Which of them it is.
+|308 rpl_idx: The index of that structure.
 A field of reference picture lists, clause 7.3.9, and of their structures,
 clause 7.3.10.
 |309 poc_lsb_lt: The low bits of the order count of a long-term entry, in a
@@ -793,7 +795,7 @@ A field of weights, clause 7.3.8; those of both lists have the name without
 |322 delta_chroma_log2_weight_denom: That of chroma weights, as a difference.
 A field of weights, clause 7.3.8; those of both lists have the name without
 `_l0` and `_l1`.
-|323 num_l0_weights: How many weights list 0 has.
+|323 num_l0_weights: The number of weights of list 0.
 A field of weights, clause 7.3.8; those of both lists have the name without
 `_l0` and `_l1`.
 |324 luma_weight_flag: Whether an entry has a luma weight:
@@ -819,7 +821,7 @@ A field of weights, clause 7.3.8; those of both lists have the name without
 `delta_chroma_offset_l0`, `delta_chroma_offset_l1`.
 A field of weights, clause 7.3.8; those of both lists have the name without
 `_l0` and `_l1`.
-|330 num_l1_weights: How many weights list 1 has.
+|330 num_l1_weights: The number of weights of list 1.
 A field of weights, clause 7.3.8; those of both lists have the name without
 `_l0` and `_l1`.
 |400 pps_pic_parameter_set_id: The id of the picture parameter set.
@@ -895,7 +897,7 @@ streams.
 borders of tiles.
 A field of a picture parameter set, clause 7.3.2.5. It isn't compared between
 streams.
-|423 pps_rect_slice_flag: Whether slices are rectangles; 1 where it is absent.
+|423 pps_rect_slice_flag: Whether slices are rectangles; 1 if absent.
 A field of a picture parameter set, clause 7.3.2.5. It isn't compared between
 streams.
 |424 pps_single_slice_per_subpic_flag: Whether each subpicture is one slice.
@@ -931,10 +933,11 @@ streams.
 |433 pps_cabac_init_present_flag: Whether slice headers choose the start of
 entropy coding.
 A field of a picture parameter set, clause 7.3.2.5.
-|434 pps_num_ref_idx_default_active_minus1: The active entries of a list where
-its header says nothing, less 1.
+|434 pps_num_ref_idx_default_active_minus1: The default number of active
+entries of a list, less 1.
 A field of a picture parameter set, clause 7.3.2.5.
-|435 pps_rpl1_idx_present_flag: Whether list 1 is spelled in headers.
+|435 pps_rpl1_idx_present_flag: Whether the choice of list 1 is coded in
+headers.
 A field of a picture parameter set, clause 7.3.2.5.
 |436 pps_weighted_pred_flag: Whether P slices have weights.
 A field of a picture parameter set, clause 7.3.2.5.
@@ -942,7 +945,7 @@ A field of a picture parameter set, clause 7.3.2.5.
 A field of a picture parameter set, clause 7.3.2.5.
 |438 pps_ref_wraparound_enabled_flag: Whether motion wraps around the picture.
 A field of a picture parameter set, clause 7.3.2.5.
-|439 pps_init_qp_minus26: The QP from which slices differ, less 26.
+|439 pps_init_qp_minus26: The QP to which slices add, less 26.
 A field of a picture parameter set, clause 7.3.2.5. It isn't compared between
 streams.
 |440 pps_cu_qp_delta_enabled_flag: Whether the QP may change within a slice.
@@ -977,7 +980,7 @@ A field of a picture parameter set, clause 7.3.2.5.
 is described.
 A field of a picture parameter set, clause 7.3.2.5.
 |453 pps_deblocking_filter_override_enabled_flag: Whether headers may describe
-it anew.
+it themselves.
 A field of a picture parameter set, clause 7.3.2.5.
 |454 pps_deblocking_filter_disabled_flag: Whether it is off.
 A field of a picture parameter set, clause 7.3.2.5.
@@ -1026,7 +1029,7 @@ between streams.
 type.
 A field of an adaptation parameter set, clause 7.3.2.6. It isn't compared
 between streams.
-|503 aps_body: The bytes behind the first.
+|503 aps_body: The bytes after the first.
 A field of an adaptation parameter set, clause 7.3.2.6. It isn't compared
 between streams.
 |600 ph_gdr_or_irap_pic_flag: Whether the picture is a GDR or an IRAP picture.
@@ -1037,8 +1040,8 @@ A field of a picture header, clause 7.3.2.8.
 A field of a picture header, clause 7.3.2.8.
 |603 ph_inter_slice_allowed_flag: Whether there may be inter slices.
 A field of a picture header, clause 7.3.2.8.
-|604 ph_intra_slice_allowed_flag: Whether there may be intra slices; 1 where it
-is absent.
+|604 ph_intra_slice_allowed_flag: Whether there may be intra slices; 1 if
+absent.
 A field of a picture header, clause 7.3.2.8.
 |605 ph_pic_parameter_set_id: The id of the picture parameter set.
 A field of a picture header, clause 7.3.2.8. It isn't compared between
@@ -1068,16 +1071,16 @@ streams.
 |615 ph_scaling_list_aps_id: The id of their adaptation parameter set.
 A field of a picture header, clause 7.3.2.8. It isn't compared between
 streams.
-|616 ph_pic_output_flag: Whether the picture is shown; 1 where it is absent.
+|616 ph_pic_output_flag: Whether the picture is shown; 1 if absent.
 A field of a picture header, clause 7.3.2.8.
-|617 ph_partition_constraints_override_flag: Whether the limits of partitions
-are set anew.
+|617 ph_partition_constraints_override_flag: Whether the header has its own
+limits of partitions.
 A field of a picture header, clause 7.3.2.8.
 |618 ph_log2_diff_min_qt_min_cb_intra_slice_luma: Intra luma: the least
 quadtree leaf over the least coding block, in binary logarithms.
 A field of a picture header, clause 7.3.2.8.
-|619 ph_max_mtt_hierarchy_depth_intra_slice_luma: Intra luma: the most levels
-of multi-type trees.
+|619 ph_max_mtt_hierarchy_depth_intra_slice_luma: Intra luma: the greatest
+depth of multi-type trees.
 A field of a picture header, clause 7.3.2.8.
 |620 ph_log2_diff_max_bt_min_qt_intra_slice_luma: Intra luma: the largest
 binary split over the least quadtree leaf, in binary logarithms.
@@ -1088,8 +1091,8 @@ A field of a picture header, clause 7.3.2.8.
 |622 ph_log2_diff_min_qt_min_cb_intra_slice_chroma: Intra chroma: the least
 quadtree leaf over the least coding block, in binary logarithms.
 A field of a picture header, clause 7.3.2.8.
-|623 ph_max_mtt_hierarchy_depth_intra_slice_chroma: Intra chroma: the most
-levels of multi-type trees.
+|623 ph_max_mtt_hierarchy_depth_intra_slice_chroma: Intra chroma: the greatest
+depth of multi-type trees.
 A field of a picture header, clause 7.3.2.8.
 |624 ph_log2_diff_max_bt_min_qt_intra_slice_chroma: Intra chroma: the largest
 binary split over the least quadtree leaf, in binary logarithms.
@@ -1106,8 +1109,8 @@ A field of a picture header, clause 7.3.2.8.
 |628 ph_log2_diff_min_qt_min_cb_inter_slice: Inter slices: the least quadtree
 leaf over the least coding block, in binary logarithms.
 A field of a picture header, clause 7.3.2.8.
-|629 ph_max_mtt_hierarchy_depth_inter_slice: Inter slices: the most levels of
-multi-type trees.
+|629 ph_max_mtt_hierarchy_depth_inter_slice: Inter slices: the greatest depth
+of multi-type trees.
 A field of a picture header, clause 7.3.2.8.
 |630 ph_log2_diff_max_bt_min_qt_inter_slice: Inter slices: the largest binary
 split over the least quadtree leaf, in binary logarithms.
@@ -1124,8 +1127,8 @@ A field of a picture header, clause 7.3.2.8.
 |634 ph_temporal_mvp_enabled_flag: Whether motion is predicted from another
 picture.
 A field of a picture header, clause 7.3.2.8.
-|635 ph_collocated_from_l0_flag: Whether that picture is in list 0; 1 where it
-is absent.
+|635 ph_collocated_from_l0_flag: Whether that picture is in list 0; 1 if
+absent.
 A field of a picture header, clause 7.3.2.8.
 |636 ph_collocated_ref_idx: The place of that picture in the list.
 A field of a picture header, clause 7.3.2.8.
@@ -1179,7 +1182,7 @@ A field of a picture header, clause 7.3.2.8.
 A field of the adaptive loop filter in picture and slice headers, clauses
 7.3.2.8 and 7.3.7; each has the name without `ph_` and `sh_`. It isn't
 compared between streams.
-|682 num_alf_aps_ids_luma: How many sets the luma filter has:
+|682 num_alf_aps_ids_luma: The number of sets of the luma filter:
 `ph_num_alf_aps_ids_luma`, `sh_num_alf_aps_ids_luma`.
 A field of the adaptive loop filter in picture and slice headers, clauses
 7.3.2.8 and 7.3.7; each has the name without `ph_` and `sh_`. It isn't
@@ -1229,28 +1232,28 @@ follows.
 A field of a slice header, clause 7.3.7. It isn't compared between streams.
 |701 sh_subpic_id: The id of the subpicture.
 A field of a slice header, clause 7.3.7. It isn't compared between streams.
-|702 sh_slice_address: The place of the slice in its subpicture.
+|702 sh_slice_address: The address of the slice in its subpicture.
 A field of a slice header, clause 7.3.7.
 |703 sh_extra_bit: An extra bit.
 A field of a slice header, clause 7.3.7.
-|704 sh_slice_type: The type: 0 for B, 1 for P, 2 for I; 2 where it is absent.
+|704 sh_slice_type: The type: 0 for B, 1 for P, 2 for I; 2 if absent.
 A field of a slice header, clause 7.3.7.
-|705 sh_no_output_of_prior_pics_flag: Whether pictures before are not shown.
+|705 sh_no_output_of_prior_pics_flag: Whether earlier pictures are not shown.
 A field of a slice header, clause 7.3.7.
 |706 sh_lmcs_used_flag: Whether the slice uses luma mapping with chroma
 scaling.
 A field of a slice header, clause 7.3.7. It isn't compared between streams.
 |707 sh_explicit_scaling_list_used_flag: Whether the slice uses scaling lists.
 A field of a slice header, clause 7.3.7. It isn't compared between streams.
-|708 sh_num_ref_idx_active_override_flag: Whether the active entries are
-counted here; 1 where it is absent.
+|708 sh_num_ref_idx_active_override_flag: Whether the header has the number of
+active entries; 1 if absent.
 A field of a slice header, clause 7.3.7.
 |709 sh_num_ref_idx_active_minus1: The active entries of a list, less 1.
 A field of a slice header, clause 7.3.7.
-|710 sh_cabac_init_flag: Which start of entropy coding the slice has.
+|710 sh_cabac_init_flag: The start of entropy coding of the slice.
 A field of a slice header, clause 7.3.7.
 |711 sh_collocated_from_l0_flag: Whether motion is predicted from a picture of
-list 0; 1 where it is absent.
+list 0; 1 if absent.
 A field of a slice header, clause 7.3.7.
 |712 sh_collocated_ref_idx: The place of that picture in the list.
 A field of a slice header, clause 7.3.7.
@@ -1304,6 +1307,6 @@ A field of a slice header, clause 7.3.7.
 |734 sh_entry_point_offset_minus1: The distance of an entry point from the one
 before, less 1.
 A field of a slice header, clause 7.3.7.
-|735 sh_byte_alignment: The alignment behind the header.
+|735 sh_byte_alignment: The alignment after the header.
 A field of a slice header, clause 7.3.7.
 ";
