@@ -1,36 +1,24 @@
 #!/usr/bin/env python3
-"""edits-apply.py: the must-fail edits and twins whose old text doesn't stand exactly once in its file; status 1 where there are any."""
-import pathlib
+"""Lists the must-fail edits and twins that don't apply: each `old:` text has to stand exactly once in its file. Status 1 if there are any."""
 import sys
 
-TOP = pathlib.Path(__file__).resolve().parent.parent
+from edit_files import ROOT, changed_texts, crate_of, gate_edits, script_edits, twins
 
 
-def faults(edit, crate):
-    """Applies an edit's changes one after another, and tells which can't be."""
-    texts, name, old = {}, None, ""
-    for line in edit.read_text().split("\n"):
-        word, _, rest = line.partition(": ")
-        if word == "file":
-            name = rest.strip()
-            file = TOP / "crates" / crate / name
-            if name not in texts and not file.exists():
-                yield f"no {name}"
-            texts.setdefault(name, file.read_text() if file.exists() else None)
-        elif word == "old":
-            old = rest
-            if texts[name] is not None and texts[name].count(old) != 1:
-                yield f"{texts[name].count(old)} times: {old[:100]}"
-        elif word == "new" and texts[name] is not None:
-            texts[name] = texts[name].replace(old, rest, 1)
+def fault(edit):
+    """Why an edit doesn't apply, or None."""
+    try:
+        changed_texts(edit, ROOT / "crates" / crate_of(edit))
+    except (OSError, ValueError) as error:
+        return f"{edit.relative_to(ROOT)}: {error}"
+    return None
 
 
 def main():
-    edits = [(it, it.parent.parent.name) for it in sorted(TOP.glob("crates/*/must-fail/*.edit"))]
-    edits += [(it, it.parent.name) for it in sorted(TOP.glob("scripts/twins/*/*"))]
-    found = [f"{it.relative_to(TOP)}: {why}" for it, crate in edits for why in faults(it, crate)]
-    print("\n".join([*found, f"{len(edits)} edits and twins, {len(found)} places to look at"]))
-    return bool(found)
+    edits = [*gate_edits(), *script_edits(), *twins()]
+    faults = list(filter(None, map(fault, edits)))
+    print("\n".join([*faults, f"{len(edits) - len(faults)} passed, {len(faults)} failed"]))
+    return bool(faults)
 
 
 if __name__ == "__main__":
