@@ -178,9 +178,7 @@ def at(steps, count):
 
 
 def add_shown_faults(cases):
-    """Reads of `show` that fail, and writes to `err`. Each write to `out` fails once in the tests of vx_app: as cases these would be half a
-    million digits.
-    """
+    """Reads of `show` that fail, and writes to `out` and `err`."""
     cases.about("show: a byte a read: the lines are written of the units whose end is seen before the read that fails")
     for source, reads in ((A, 50), (TWICE, 99)):
         words = f"show {cases.name(source)}"
@@ -191,6 +189,13 @@ def add_shown_faults(cases):
     words = f"show {cases.name(A)}"
     settings = ("pieces out 1", f"fail out {len(GRAY_LINES)}")
     say_in_pieces(cases, words, Expected(out=GRAY_LINES), (WHOLE, BYTEWISE, SIXTY), settings)
+    cases.about("show: a byte a write, of which each fails once; of two pictures, every fifth")
+    for source, lines, step in ((A, GRAY_LINES, 1), (TWICE, TWICE_LINES, 5)):
+        for call in range(0, len(lines), step):
+            cases.case(f"show {cases.name(source)}", failed("write fault", lines[:call]), "pieces out 1", f"fail out {call}")
+    cases.about("show: a sink that takes some bytes of its first write, and fails at the next: those bytes are written")
+    for room in range(1, len(GRAY_LINES), 7):
+        cases.case(words, failed("write fault", GRAY_LINES[:room]), f"pieces out {room}", "fail out 1")
     cases.about("show: a byte a write to `err`, of which each fails once: nothing else changes")
     line = "F3 source 0 byte 8"
     for call in range(len(line) + 1):
