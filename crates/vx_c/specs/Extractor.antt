@@ -58,7 +58,7 @@ status_by ToWait = WAITS
 status_by ToEnd = ENDED
 status_by (ToStop stop) = status_of stop
 
--- An extractor comes to this: the picture that it holds, or its end, again; or what is next.
+-- An extractor reaches this: the picture that it holds, or its end, again; or what is next.
 pub record ComesTo (c later : Cutting) (cut : Cut) : Type 0 where
   pub held : (kind : Kind) → c.held ≡ Some kind → (cut ≡ ToPicture) × (later ≡ c)
   pub ended : (end : Cut) → c.held ≡ None → c.end ≡ Some end → (cut ≡ end) × (later ≡ c)

@@ -67,7 +67,7 @@ abbrev pub source_by : Mixed → ℕ → ℕ
 source_by (ToWait k) before = k
 source_by mixed before = before
 
--- A merger comes to this: the picture that it holds, or its end, again; or what is next.
+-- A merger reaches this: the picture that it holds, or its end, again; or what is next.
 pub record ComesTo (m later : Mixing) (mixed : Mixed) : Type 0 where
   pub held : (kind : Kind) → m.held ≡ Some kind → (mixed ≡ ToPicture) × (later ≡ m)
   pub ended : (end : Mixed) → m.held ≡ None → m.end ≡ Some end → (mixed ≡ end) × (later ≡ m)
