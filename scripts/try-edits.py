@@ -75,7 +75,8 @@ def goals_of(said):
     """The goals that are not proved: whether the prover has values at which one is false, its answer is open or written, and its name."""
     goals = [("open", *found) for found in re.findall(r"it is not proved that .*?\(`([\w-]+)`\)(.*)", said)]
     goals += [("written", *found) for found in re.findall(r"Answers\.antt:\S+ error: `([\w-]+)`: (.*)", said)]
-    return [("false" if re.search(r"at which this goal is false|and the goal fails, at", rest) else kind, goal) for kind, goal, rest in goals]
+    values = r"at which this goal is false|and the goal fails, at|differ only where one has `[\w.]*(true|false)`"
+    return [("false" if re.search(values, rest) else kind, goal) for kind, goal, rest in goals]
 
 
 def outcome_of(is_proved, said):
