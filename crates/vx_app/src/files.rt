@@ -16,7 +16,7 @@ use vx_run::{GatherSink, run_whole};
 /// Opens the files that the arguments name, runs the command on them, and returns the exit status.
 ///
 /// No clause says what the command does to its files, because a clause can't name the boxes that the body makes. A body that passes other
-/// files, or none, would be proved; the stored run and a test would notice. *Errors:* [`AllocError`] if there is no memory for the files;
+/// files, or none, would be proved; the stored run would notice. *Errors:* [`AllocError`] if there is no memory for the files;
 /// nothing is written.
 pub(crate) fn run_on_files<W: Write + Drop, E: Sink>(
     rt: &HostRuntime,
