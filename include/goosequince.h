@@ -1,36 +1,36 @@
 /*
- * goosequince.h: the merger and the extractor of VVC streams as a library. C99 and C++, where size_t has 64 bits; link with
- * -lgoosequince.
+ * goosequince.h: merges and extracts VVC streams (H.266) in a process of your own. C99 and C++, on machines whose size_t has 64 bits.
+ * Link with -lgoosequince.
  *
- * What the library makes is, byte for byte, what the program goosequince writes of the same streams, and what it refuses is refused
- * by the same rule, with the same line. It opens no file, starts no thread and has no global state. It calls nothing but malloc,
- * realloc and free. Every call returns, whatever bytes the streams have. It keeps no pointer of a caller's behind a call.
+ * The output is, byte for byte, what the program goosequince writes for the same streams. What the program refuses, the library refuses
+ * by the same rule and with the same line (docs/REFUSALS.md). It opens no files, starts no threads, has no global state, and calls only
+ * malloc, realloc and free. Every call returns, whatever bytes the streams have. No call keeps a pointer to your memory after it returns.
  *
  * There are two forms:
  *
- *   whole    gq_run does what the program's words ask for, over streams that lie in memory. One call, no handle.
- *   push     gq_merger_.. and gq_extractor_..: a handle. The bytes of each source are handed in as they come, in pieces of any
- *            size, and each picture is taken as soon as it is whole.
+ *   whole    gq_run runs one of the program's commands on streams in memory. One call, no handle.
+ *   push     gq_merger_.. and gq_extractor_.. work on a handle. You push the bytes of each source as they arrive, in pieces of any size,
+ *            and take each picture as soon as it is complete.
  *
- * A handle is opened first and closed last. Between these its calls may come in any order and any number of times.
+ * Open a handle before its other calls, and close it after them. In between, these calls may come in any order and any number of times.
  *
- * docs/LIBRARY.md has flow control, segments, threads, memory and stack.
+ * docs/LIBRARY.md describes flow control, segments, threads, memory and stack.
  *
- * WHAT IS ASKED OF A CALLER, and tested by nothing:
+ * WHAT YOU MUST ENSURE. Nothing checks these conditions:
  *
- *   - Pointers are not null and are aligned for what they point to, also where a length is 0. A length is that of the memory behind
- *     its pointer, in elements, and no memory is larger than PTRDIFF_MAX bytes.
- *   - What a call writes lies apart from all else that it is given. It needn't be initialized, but for a handle.
- *   - A handle is all zeros, or was written by the library alone, and is closed before its memory goes. It may be moved; of two copies
- *     one is used at most.
- *   - One call at a time on a handle. It may go from one thread to another where the caller orders the calls: by a lock, a thread's start
- *     or join, or a sequentially consistent atomic. Calls on different handles may go at once.
- *   - No call comes from a signal handler, or from the forked child of a process with threads.
+ *   - Pointers aren't null and are aligned for their types, even if the length is 0. A length is the number of elements that its pointer
+ *     points to. No block of memory is larger than PTRDIFF_MAX bytes.
+ *   - Memory that a call writes overlaps nothing else that the call is given. It needn't be initialized, unless it is a handle.
+ *   - A handle is all zeros, or only the library has written it. It is closed before its memory is freed. It may be moved; of two copies
+ *     at most one is used.
+ *   - A handle takes one call at a time. It may go from one thread to another if you order the calls: by a lock, a thread's start or
+ *     join, or a sequentially consistent atomic. Calls on different handles may run at the same time.
+ *   - No call is made from a signal handler, or in the forked child of a process with threads.
  *   - The stack has 256 KiB to spare.
- *   - malloc, realloc and free are one allocator's, and align each block to the powers of two up to 16 that divide its size.
+ *   - malloc, realloc and free belong to one allocator. It aligns each block to the powers of two up to 16 that divide the block's size.
  *
- * All else is tested: a handle that is closed, one of the other kind, a source that there isn't, room that doesn't suffice. Such a call
- * answers GQ_MISUSED or GQ_NO_ROOM and changes nothing but what is said of it below.
+ * All else is checked: a closed handle, a handle of the other kind, a source that doesn't exist, too little room. Such a call returns
+ * GQ_MISUSED or GQ_NO_ROOM, and changes only what its comment says.
  */
 #ifndef GOOSEQUINCE_H
 #define GOOSEQUINCE_H
@@ -50,51 +50,54 @@ extern "C" {
 /* The version of this interface. It rises with each change that a caller can see. */
 #define GQ_VERSION 1u
 
-/* The version of the interface that the library has: GQ_VERSION, unless header and library don't belong together. */
+/* Returns the version of the interface that the library has. If it isn't GQ_VERSION, header and library don't belong together. */
 uint32_t gq_version(void);
 
-/* What a call answers, as a uint8_t. 0 to 4 are the program's statuses. The numbers stay. */
+/* What a call returns, as a uint8_t. 0 to 4 are the program's statuses. The numbers don't change. */
 enum gq_status {
-    GQ_DONE = 0,      /* it is done */
+    GQ_DONE = 0,      /* the call is done */
     GQ_REFUSED = 1,   /* a rule is broken; the line names it and its place */
-    GQ_MISUSED = 2,   /* words that aren't understood; a closed handle; a source or a number that there isn't */
-    GQ_NO_ROOM = 3,   /* the room that was given doesn't suffice */
-    GQ_NO_MEMORY = 4, /* no memory was found */
-    GQ_WAITS = 5,     /* bytes of a source are wanted before it can go on */
-    GQ_ENDED = 6      /* all is done: no picture comes any more */
+    GQ_MISUSED = 2,   /* arguments that aren't understood or out of range, or a call that the handle can't do */
+    GQ_NO_ROOM = 3,   /* too little room */
+    GQ_NO_MEMORY = 4, /* out of memory */
+    GQ_WAITS = 5,     /* a source needs bytes */
+    GQ_ENDED = 6      /* there are no more pictures */
 };
 
-/* The room that each line fits in. (That isn't proved; the longest line, by its texts and the ranges of its numbers, has 83 bytes.) */
+/* Bytes that are enough for each line. (Not proved: by its texts and the ranges of its numbers, the longest line has 83 bytes.) */
 #define GQ_LINE_ROOM 128u
 
-/* A closed handle: `gq_merger merger = GQ_CLOSED;`. So is memory of zeros, as calloc gives it. */
+/* A closed handle: `gq_merger merger = GQ_CLOSED;`. Memory of zeros, as calloc returns it, is a closed handle too. */
 #define GQ_CLOSED {0, false}
 
 /* ---- whole ------------------------------------------------------------------------------------------------------------------- */
 
 /*
- * Does what the program does, over streams in memory in place of files.
+ * Runs one of the program's commands on streams in memory.
  *
- * WORDS are the program's, without its name, each but the last followed by a line feed: "merge\n0,0=a\n64,0=b". The names of files
- * stand for the streams in order, whatever they are and also where two are the same: COUNT is how many the words name, and 0 for words
- * that aren't understood. BYTES are those of all streams, one behind another, and LENGTHS[k] is how many bytes stream k has, which may
- * be none.
+ *   words, words_len         The program's arguments, without its name, separated by line feeds: "merge\n0,0=a\n64,0=b". Names of files
+ *                            stand for the streams, in order. They may be any names, and two may be the same.
+ *   bytes, bytes_len         The bytes of all streams, one stream after another.
+ *   lengths, count           `lengths[k]` is the number of bytes of stream k, which may be 0. `count` is the number of files that `words`
+ *                            names; it is 0 if `words` isn't understood.
+ *   out, out_room, written   `out` receives what the program would write to standard output: `*written` bytes, at most `out_room`.
+ *   err, err_room, told      `err` receives what the program would write to standard error, with its line feed: `*told` bytes, at most
+ *                            `err_room`. GQ_LINE_ROOM bytes are enough; with fewer, it receives a prefix of the line, and the status is
+ *                            the same.
  *
- * What the program would write on standard output is put into OUT, and what it would write on standard error into ERR, with its line
- * feed; *WRITTEN and *TOLD are how many bytes these are. Nothing is written behind them.
+ * The rest of `out` and `err` isn't written.
  *
- * Answers one of the program's statuses:
- *   GQ_DONE       all was done.
- *   GQ_REFUSED    a rule is broken: OUT has what comes before it, ERR the line. (verify: a difference was found.)
- *   GQ_MISUSED    the words aren't understood, as ERR tells; or they are no UTF-8, or COUNT isn't how many streams they name, or the
- *                 lengths don't come to BYTES_LEN: then nothing is told.
- *   GQ_NO_ROOM    OUT is used up: it has the front of what is written, and ERR the line "write fault".
- *   GQ_NO_MEMORY  no memory was found. ERR has the line "no memory", or nothing where there was none before the words were run.
+ * Returns one of the program's statuses:
  *
- * GQ_LINE_ROOM bytes suffice for ERR; into fewer the front of the line is put, and the status is the same.
+ *   GQ_DONE       The command is done.
+ *   GQ_REFUSED    A rule is broken: `out` has the output before it, `err` the line. (For `verify`: a difference was found.)
+ *   GQ_MISUSED    The arguments aren't understood, and `err` has the line. Or they aren't valid UTF-8, `count` isn't the number of files
+ *                 that they name, or the lengths don't add up to `bytes_len`: then `*written` and `*told` are 0.
+ *   GQ_NO_ROOM    `out` is full: it has a prefix of the output, and `err` the line "write fault".
+ *   GQ_NO_MEMORY  Out of memory. `err` has the line "no memory", or nothing if memory ran out before the command started.
  *
- * It holds a copy of BYTES, OUT_ROOM and ERR_ROOM bytes (of which it touches those that are written), and what the program holds. All
- * of it is given back before it returns.
+ * During the call it holds a copy of `bytes`, `out_room` and `err_room` bytes (it touches only those that are written), and what the
+ * program holds. It frees all of this before it returns.
  */
 uint8_t gq_run(const uint8_t *words, size_t words_len, const uint8_t *bytes, size_t bytes_len, const size_t *lengths, size_t count,
                uint8_t *out, size_t out_room, size_t *written, uint8_t *err, size_t err_room, size_t *told);
@@ -106,101 +109,126 @@ typedef struct gq_corner {
     uint32_t x, y;
 } gq_corner;
 
-/* What is told of a picture that waits to be taken. */
+/* Describes a picture that is ready to be taken. */
 typedef struct gq_picture {
-    uint64_t number;      /* how many pictures came before it: merged ones, or those of an extractor's source, kept or not */
-    size_t bytes;         /* how many bytes it has, with its sets and the end of sequence before it */
-    int32_t order;        /* PicOrderCntVal: the place in output order within its coded layer video sequence */
+    uint64_t number;      /* the number of pictures before it: merged ones, or those of an extractor's source, kept or not */
+    size_t bytes;         /* its size in bytes, with its parameter sets and the end of sequence before it */
+    int32_t order;        /* PicOrderCntVal: its place in output order within its coded layer video sequence */
     uint8_t type;         /* nal_unit_type of its slices: 7 to 9 are IRAP pictures, 10 is a GDR picture */
     uint8_t temporal_id;  /* TemporalId */
-    bool starts_sequence; /* it begins a coded layer video sequence */
+    bool starts_sequence; /* it starts a coded layer video sequence */
 } gq_picture;
 
-/* A merger. All zeros is a closed one. Its fields are the library's. */
+/* A merger. All zeros is a closed one. Only the library uses its fields. */
 typedef struct gq_merger {
     void *at;
     bool live;
 } gq_merger;
 
 /*
- * Opens a merger of COUNT sources, 1 to 64, whose regions have these upper left corners, less than 16,384 across and down. LEVEL is the
- * general_level_idc of the merged stream, and is written as it is; 0 is the highest of its sources. Whether the regions make a frame is
- * asked of the first pictures, by gq_merger_next.
+ * Opens a merger.
  *
- *   GQ_DONE       it is open. Each source waits for bytes.
- *   GQ_MISUSED    it was open already, and stays as it is; or there are no corners, or more than 64, or one that is too far: it stays
- *                 closed.
- *   GQ_NO_MEMORY  it stays closed.
+ *   corners, count   The upper left corner of each source's region, in order of the sources. There are 1 to 64, and x and y are below
+ *                    16,384. They are copied.
+ *   level            The general_level_idc of the merged stream, written as it is; 0 means the highest of the sources'.
  *
- * It holds memory until gq_merger_close. CORNERS are copied.
+ * Returns:
+ *
+ *   GQ_DONE       The merger is open. Each source waits for bytes.
+ *   GQ_MISUSED    The merger was open already, and stays as it is. Or `count` or a corner is out of its range: the merger stays closed.
+ *   GQ_NO_MEMORY  Out of memory. The merger stays closed.
+ *
+ * Whether the regions make a frame depends on the first pictures: gq_merger_next checks it. The merger holds memory until
+ * gq_merger_close.
  */
 uint8_t gq_merger_open(gq_merger *merger, const gq_corner *corners, size_t count, uint8_t level);
 
 /*
- * Hands in the next bytes of a source, which are the first, 0, to the COUNT-th, COUNT - 1. *TAKEN is how many of them were taken, from
- * the front: at least one where LEN isn't 0 and the source waits; none where it holds a whole picture (until that is merged), behind its
- * end, and behind a rule that it broke. The caller keeps the rest and hands it in later. At most 65,536 are taken in one call.
+ * Pushes the next bytes of a source.
  *
- *   GQ_DONE       as *TAKEN says. That the bytes break a rule, or that no memory was found for them, is answered by gq_merger_next, in its
- *                 turn; from then on none are taken of this source.
- *   GQ_MISUSED    the merger is closed, or there is no such source; *TAKEN is 0.
+ *   source       The source's number, from 0, in order of the corners.
+ *   bytes, len   The source's next bytes.
+ *   taken        `*taken` receives how many of them were taken, from the beginning. Keep the rest, and push it later.
  *
- * What is taken is copied. Of each source at most 2^25 + 2^23 + 65,538 bytes are held beside the sets in force.
+ * A call takes at most 65,536 bytes. If the source waits for bytes, `len` isn't 0 and there is memory, it takes at least one. It takes
+ * none in the following cases:
+ *
+ *   - The source holds a complete picture that isn't merged yet.
+ *   - The source has ended, has broken a rule, or found no memory for its bytes.
+ *
+ * Returns:
+ *
+ *   GQ_DONE       `*taken` says what was taken. If the bytes break a rule, or there is no memory for them, gq_merger_next reports it in
+ *                 its turn; from then on this source takes none.
+ *   GQ_MISUSED    The merger is closed, or there is no such source. `*taken` is 0.
+ *
+ * Bytes that are taken are copied. At most 2^25 + 2^23 + 65,538 bytes of each source are held, beside its parameter sets and messages
+ * (docs/LIBRARY.md).
  */
 uint8_t gq_merger_push(gq_merger *merger, size_t source, const uint8_t *bytes, size_t len, size_t *taken);
 
 /*
- * Says that the last unit that was handed in of a source is whole, though no start code has come behind it: for the end of a segment,
- * or of a picture in a live stream. It stands for three zero bytes, which Annex B allows there, and places in lines count these. In
- * the midst of a unit it ends that unit there, which a rule mostly refuses then.
+ * Declares that the last unit pushed to a source is complete, although no start code follows yet. Call it at the end of a segment, or
+ * after each picture of a live stream.
  *
- *   GQ_DONE       it is done, as for gq_merger_push. Where the source waits, each call is three more zeros. Where it holds a picture, they are
- *                 kept until that was merged, once however often this is said. Behind its end, or a rule that it broke, nothing is done.
- *   GQ_MISUSED    the merger is closed, or there is no such source.
+ * It acts as three zero bytes, which Annex B allows there, and places in lines count them. In the middle of a unit it ends the unit
+ * there, and in most cases a rule then refuses the stream.
+ *
+ *   GQ_DONE       The call is done. If the source waits for bytes, each call adds three zeros. If it holds a picture, the zeros are added
+ *                 once that picture is merged, and only once, however often you call this before. If it has ended, has broken a rule or
+ *                 found no memory, nothing changes. A rule that is broken, or lack of memory, is reported as for gq_merger_push.
+ *   GQ_MISUSED    The merger is closed, or there is no such source.
  */
 uint8_t gq_merger_flush(gq_merger *merger, size_t source);
 
 /*
- * Says that a source has no more bytes. What is told twice is told once. Bytes that weren't taken before are not part of the stream.
+ * Declares that a source has no more bytes. Bytes that weren't taken before aren't part of the stream. A second call changes nothing.
  *
- *   GQ_DONE       it is done. Behind a rule that the source broke nothing changes by it.
- *   GQ_MISUSED    the merger is closed, or there is no such source.
+ *   GQ_DONE       The call is done. If the source has broken a rule, nothing changes.
+ *   GQ_MISUSED    The merger is closed, or there is no such source.
  */
 uint8_t gq_merger_end(gq_merger *merger, size_t source);
 
 /*
- * Goes on as far as the bytes allow.
+ * Advances as far as the bytes allow.
  *
- *   GQ_DONE       a picture waits to be taken: *PICTURE tells of it. It is the same one until it is taken.
- *   GQ_WAITS      *SOURCE is the first source, in their order, of which more bytes are wanted, or the end.
- *   GQ_ENDED      all sources have ended, and each picture was taken.
- *   GQ_REFUSED    a rule is broken: gq_merger_line has the line. The same from then on. A rule that a later source breaks is told
- *                 only once no earlier one waits, so that it is the one that the program names.
- *   GQ_NO_MEMORY  no memory was found for bytes that were handed in, or for the merged picture. The same from then on.
- *   GQ_MISUSED    the merger is closed.
+ *   GQ_DONE       A picture is ready to be taken, and `*picture` describes it. It is the same picture until you take it.
+ *   GQ_WAITS      `*source` is the first source, in order, that needs more bytes, or its end.
+ *   GQ_ENDED      All sources have ended, and every picture was taken. Later calls return the same.
+ *   GQ_REFUSED    A rule is broken, and gq_merger_line has its line. Later calls return the same. A rule that a later source breaks is
+ *                 reported only when no earlier source waits, so that the line is the one that the program prints.
+ *   GQ_NO_MEMORY  There is no memory for bytes that were pushed, or for the merged picture. Later calls return the same.
+ *   GQ_MISUSED    The merger is closed.
  *
- * *SOURCE is written by GQ_WAITS alone, *PICTURE by GQ_DONE alone.
+ * Only GQ_WAITS writes `*source`, and only GQ_DONE writes `*picture`.
  */
 uint8_t gq_merger_next(gq_merger *merger, size_t *source, gq_picture *picture);
 
 /*
- * Copies the picture that waits to the front of INTO, and gives it up: the next one can come. All pictures, one behind another, are
- * the merged stream.
+ * Copies the picture that is ready to the beginning of `into`, and gives it up, so that gq_merger_next can go on to the next one. All
+ * pictures, one after another, are the merged stream.
  *
- *   GQ_DONE       as many bytes were written as gq_merger_next told in PICTURE->bytes, which is never 0.
- *   GQ_NO_ROOM    ROOM is less than that. Nothing is written, and the picture waits on.
- *   GQ_MISUSED    the merger is closed, or no picture waits.
+ *   GQ_DONE       The picture was written: as many bytes as gq_merger_next reported in `picture->bytes`, which is never 0.
+ *   GQ_NO_ROOM    `room` is less than that. Nothing is written, and the picture stays.
+ *   GQ_MISUSED    The merger is closed, or no picture is ready. Nothing is written.
  */
 uint8_t gq_merger_take(gq_merger *merger, uint8_t *into, size_t room);
 
 /*
- * The line of the rule that is broken, as the program writes it, with its line feed, or "no memory": how many bytes it has, of which as
- * many as ROOM allows are put into INTO, with no zero behind them. 0 where gq_merger_next answered neither of these, where there is no
- * memory for the line, and where the merger is closed. GQ_LINE_ROOM bytes suffice.
+ * Copies the line that says why the merger stopped to `into`, and returns the line's length in bytes. It is the line of the broken rule,
+ * as the program prints it, or "no memory", with its line feed.
+ *
+ * If `room` is less than that length, `into` receives a prefix of the line. No zero is written after it. GQ_LINE_ROOM bytes are enough.
+ *
+ * Returns 0 and writes nothing in three cases: gq_merger_next has returned neither GQ_REFUSED nor GQ_NO_MEMORY; there is no memory for
+ * the line; the merger is closed.
  */
 size_t gq_merger_line(gq_merger *merger, uint8_t *into, size_t room);
 
-/* Gives back all memory, with a picture that waits. The merger is closed then, all zeros, and may be opened again. A closed one stays so. */
+/*
+ * Frees all memory that the merger holds, and drops a picture that wasn't taken. The merger is then closed, all zeros, and may be opened
+ * again. On a closed merger the call does nothing.
+ */
 void gq_merger_close(gq_merger *merger);
 
 /* An extractor. All zeros is a closed one. */
@@ -210,14 +238,19 @@ typedef struct gq_extractor {
 } gq_extractor;
 
 /*
- * Opens an extractor of the subpicture with this index, 0 to 999, of each picture whose TemporalId is at most TEMPORAL_ID, 0 to 6; the
- * others are left out. LEVEL is the general_level_idc of the extracted stream, and is written as it is; 0 is the source's.
+ * Opens an extractor.
  *
- *   GQ_DONE       it is open, and waits for bytes.
- *   GQ_MISUSED    it was open already, and stays as it is; or a number is out of its range: it stays closed.
- *   GQ_NO_MEMORY  it stays closed.
+ *   index         The index of the subpicture to extract, 0 to 999.
+ *   temporal_id   The highest TemporalId to keep, 0 to 6. Pictures with a higher one are left out.
+ *   level         The general_level_idc of the extracted stream, written as it is; 0 keeps the source's.
  *
- * Its other calls are those of a merger of one source, with "extracted" for "merged".
+ * Returns:
+ *
+ *   GQ_DONE       The extractor is open, and waits for bytes.
+ *   GQ_MISUSED    The extractor was open already, and stays as it is. Or a number is out of its range: the extractor stays closed.
+ *   GQ_NO_MEMORY  Out of memory. The extractor stays closed.
+ *
+ * The other calls do what those of a merger with one source do; read "extracted" for "merged".
  */
 uint8_t gq_extractor_open(gq_extractor *extractor, uint32_t index, uint8_t temporal_id, uint8_t level);
 uint8_t gq_extractor_push(gq_extractor *extractor, const uint8_t *bytes, size_t len, size_t *taken);
