@@ -1,6 +1,7 @@
 /*
- * Merges files: hands in pieces of each as the merger asks for them, and writes the merged stream on standard output. It ends with the
- * program's statuses and tells its lines. C99, and C++ too.
+ * Merges files, and writes the merged stream to standard output. It pushes pieces of each file as the merger needs them. Its statuses and
+ * lines are those of the program goosequince. C99, and C++ too.
+ *
  * Usage: merge X,Y=FILE ..
  *
  *     cc -IDIR/include examples/merge.c -LDIR/lib -lgoosequince -o merge && ./merge 0,0=a.266 64,0=a.266 > m.266
@@ -11,17 +12,17 @@
 
 #define MOST 64
 
-/* A file failed: the program's status for that. */
+/* The program's status if a file fails. */
 #define FAULT 3
 
-/* A file, and what was read of it and isn't taken yet. */
+/* A file, and the bytes that were read from it: those before `at` have been taken. */
 typedef struct source {
     FILE *file;
     size_t at, len;
     uint8_t piece[65536];
 } source;
 
-/* Hands in what was read of a file, or the next piece of it, or tells its end. */
+/* Pushes the bytes of a file that aren't taken yet. If there are none, reads the next ones, or declares the end of the file. */
 static uint8_t hand_in(gq_merger *merger, size_t k, source *from) {
     size_t taken;
     uint8_t status;
@@ -39,7 +40,7 @@ static uint8_t hand_in(gq_merger *merger, size_t k, source *from) {
     return status;
 }
 
-/* Takes the picture that waits, and writes it. */
+/* Takes the picture that is ready, and writes it. */
 static uint8_t write_picture(gq_merger *merger, const gq_picture *picture) {
     uint8_t *bytes = (uint8_t *) malloc(picture->bytes);
     uint8_t status = GQ_NO_MEMORY;
@@ -49,7 +50,7 @@ static uint8_t write_picture(gq_merger *merger, const gq_picture *picture) {
     return status;
 }
 
-/* Merges the sources, and answers the program's status. */
+/* Merges the sources, and returns the program's status. */
 static uint8_t merge(const gq_corner *corners, source *sources, size_t count) {
     gq_merger merger = GQ_CLOSED;
     gq_picture picture;

@@ -2,7 +2,7 @@
 
     python3 merge.py libgoosequince.so X,Y=FILE .. > merged
 
-The shared object is made of the archive:
+Make the shared object from the archive:
 
     cc -shared -o libgoosequince.so -Wl,--whole-archive libgoosequince.a -Wl,--no-whole-archive
 """
@@ -32,7 +32,7 @@ class Handle(c.Structure):
 
 
 def library(name):
-    """The library, with what its calls answer."""
+    """Loads the library, and declares what its calls return."""
     gq = c.CDLL(name)
     for call in ("open", "push", "flush", "end", "next", "take"):
         getattr(gq, "gq_merger_" + call).restype = c.c_uint8
@@ -42,7 +42,7 @@ def library(name):
 
 
 class Merger:
-    """A merger of sources at these corners."""
+    """A merger with one source for each corner."""
 
     def __init__(self, gq, corners, level=0):
         self.gq, self.handle = gq, Handle()
@@ -52,7 +52,7 @@ class Merger:
             raise ValueError(f"not opened: status {status}")
 
     def push(self, source, piece):
-        """How many bytes were taken of the front of a piece."""
+        """Pushes bytes of a source, and returns how many of them were taken, from the beginning."""
         taken = c.c_size_t()
         self.gq.gq_merger_push(c.byref(self.handle), c.c_size_t(source), piece, c.c_size_t(len(piece)), c.byref(taken))
         return taken.value
@@ -64,19 +64,19 @@ class Merger:
         self.gq.gq_merger_end(c.byref(self.handle), c.c_size_t(source))
 
     def next(self):
-        """What it came to: a status, the source that waits, and the picture that waits."""
+        """Advances, and returns the status, the source that needs bytes, and the picture that is ready."""
         source, picture = c.c_size_t(), Picture()
         status = self.gq.gq_merger_next(c.byref(self.handle), c.byref(source), c.byref(picture))
         return status, source.value, picture
 
     def take(self, picture):
-        """The bytes of the picture that waits."""
+        """Takes the picture that is ready, and returns its bytes."""
         into = c.create_string_buffer(picture.bytes)
         self.gq.gq_merger_take(c.byref(self.handle), into, c.c_size_t(picture.bytes))
         return into.raw
 
     def line(self):
-        """The line of the rule that is broken."""
+        """Returns the line that says why the merger stopped; empty if it isn't stopped."""
         into = c.create_string_buffer(128)
         return into.raw[: self.gq.gq_merger_line(c.byref(self.handle), into, c.c_size_t(128))].decode()
 
@@ -85,7 +85,7 @@ class Merger:
 
 
 def merge(gq, words, out):
-    """Merges what the words name, and answers the program's status."""
+    """Merges the files of arguments `X,Y=FILE`, and returns the program's status."""
     placed = [word.split("=", 1) for word in words]
     corners = [tuple(map(int, corner.split(","))) for corner, _ in placed]
     files = [open(name, "rb") for _, name in placed]

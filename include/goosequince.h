@@ -193,7 +193,7 @@ uint8_t gq_merger_end(gq_merger *merger, size_t source);
  * Advances as far as the bytes allow.
  *
  *   GQ_DONE       A picture is ready to be taken, and `*picture` describes it. It is the same picture until you take it.
- *   GQ_WAITS      `*source` is the first source, in order, that needs more bytes, or its end.
+ *   GQ_WAITS      `*source` is the first source, in order, that needs more bytes or gq_merger_end.
  *   GQ_ENDED      All sources have ended, and every picture was taken. Later calls return the same.
  *   GQ_REFUSED    A rule is broken, and gq_merger_line has its line. Later calls return the same. A rule that a later source breaks is
  *                 reported only when no earlier source waits, so that the line is the one that the program prints.

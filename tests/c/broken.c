@@ -1,7 +1,10 @@
 /*
- * Broken streams: a merge and an extraction that are pushed answer what gq_run does on the same bytes.
- * Usage: broken COUNT SEED X,Y=FILE ..   (COUNT merges of these files, each with one to four changes, from the number SEED)
- * Where PROGRAM names the built program, and FOLDER an empty folder, each fiftieth merge is also the program's, on files.
+ * Tests that merges and extractions of broken streams, pushed in pieces, end as gq_run does on the same bytes.
+ *
+ * Usage: broken COUNT SEED X,Y=FILE ..
+ * Merges these files COUNT times, each time with one to four changes, which are drawn from SEED. If PROGRAM names the built program and
+ * FOLDER an empty folder, every fiftieth merge is also compared with the program's. Prints how many merges were refused and how many
+ * results differ; the status is 1 if any do.
  */
 #define _POSIX_C_SOURCE 200112L
 #include "pushed.h"
@@ -9,25 +12,25 @@
 
 #define EACH 50
 
-/* More than is merged or extracted of any of the streams. */
+/* More bytes than any merge or extraction of these streams writes. */
 #define ROOM (1u << 18)
 
 static uint64_t seed;
 
-/* A number below a bound. */
+/* Returns a random number below `bound`. */
 static size_t below(size_t bound) {
     seed = seed * 6364136223846793005u + 1442695040888963407u;
     return bound ? (size_t) ((seed >> 33) % bound) : 0;
 }
 
-/* Where unit `n` of a stream begins, or its end: behind a start code of three bytes. */
+/* Returns where the start code of unit `n` begins, or the end of the stream if it has fewer units. */
 static size_t unit_at(const bytes *stream, size_t n) {
     for (size_t at = 0; at + 3 <= stream->len; at++)
         if (!memcmp(stream->at + at, "\0\0\1", 3) && n-- == 0) return at;
     return stream->len;
 }
 
-/* Puts bytes in the place of some. */
+/* Replaces `len` bytes of a stream by `count` others. */
 static void splice(bytes *stream, size_t at, size_t len, const void *from, size_t count) {
     bytes made = bytes_of(stream->at, at);
     append(&made, from, count);
@@ -36,7 +39,10 @@ static void splice(bytes *stream, size_t at, size_t len, const void *from, size_
     *stream = made;
 }
 
-/* Changes a stream in one place: a bit, a byte, a cut, bytes that go or come, a unit that goes, comes twice or comes from another. */
+/*
+ * Changes a stream in one place: flips a bit, replaces a byte, cuts the stream, drops or inserts bytes, inserts a start code, drops or
+ * doubles a unit, or replaces a unit by one of another stream.
+ */
 static void break_it(bytes *stream, const bytes *other) {
     size_t at = below(stream->len), len = below(stream->len - at < 9 ? stream->len - at + 1 : 9);
     size_t n = below(12), begin = unit_at(stream, n), end = unit_at(stream, n + 1), there = below(12);
@@ -64,7 +70,7 @@ static void break_it(bytes *stream, const bytes *other) {
     }
 }
 
-/* Extracts a subpicture of a stream, handed in in pieces, to the end. */
+/* Extracts a subpicture of a stream that is pushed in pieces, to the end. */
 static outcome extract_in(const bytes *stream, uint32_t index, uint8_t temporal_id, size_t piece) {
     gq_extractor extractor = {0};
     gq_picture picture;
@@ -97,7 +103,7 @@ static void write_file(const char *name, const bytes *all) {
     CHECK(file && fwrite(all->at, 1, all->len, file) == all->len && fclose(file) == 0);
 }
 
-/* Merges files with these bytes by the program. */
+/* Merges files with these bytes by the program. `folder` receives the files. */
 static outcome by_program(const char *program, const char *folder, const gq_corner *corners, const bytes *streams, size_t count) {
     char command[8192], name[256];
     outcome made;

@@ -1,6 +1,7 @@
 /*
- * Calls at the edge: closed handles and those of the other kind, numbers that there aren't, room that doesn't suffice, bytes behind an end;
- * and the sizes, places and numbers that callers in other languages rely on.
+ * Tests misuse and limits: closed handles, handles of the other kind, numbers out of range, too little room, bytes after an end. The
+ * compiler checks the sizes, offsets and numbers that callers in other languages rely on.
+ *
  * Usage: edges STORED MERGED   (a stored stream, and the stored merge of it with itself, side by side)
  */
 #include "pushed.h"
@@ -19,7 +20,7 @@ IS(picture_end, offsetof(gq_picture, type) == 20 && offsetof(gq_picture, tempora
 
 static int is_closed(const gq_merger *merger) { return merger->at == 0 && !merger->live; }
 
-/* Every call on a closed handle is misused, and writes nothing but how many bytes it took. */
+/* Every call on a closed handle returns GQ_MISUSED, and writes only `taken`. */
 static void closed(void) {
     gq_merger merger = GQ_CLOSED;
     gq_extractor extractor = GQ_CLOSED;
@@ -42,7 +43,7 @@ static void closed(void) {
     CHECK(extractor.at == 0 && !extractor.live);
 }
 
-/* A handle of the other kind is as a closed one, and stays as it is. */
+/* A handle of the other kind is treated like a closed one, and doesn't change. */
 static void of_the_other(const bytes *one) {
     gq_merger merger = GQ_CLOSED;
     gq_extractor extractor = GQ_CLOSED;
@@ -67,7 +68,7 @@ static void of_the_other(const bytes *one) {
     gq_extractor_close(&extractor);
 }
 
-/* Corners and numbers that there aren't leave a handle closed; an open one stays as it is. */
+/* Corners and numbers out of range leave a handle closed; an open handle stays as it is. */
 static void opened(void) {
     gq_merger merger = {0};
     gq_extractor extractor = {0};
@@ -89,7 +90,7 @@ static void opened(void) {
     gq_extractor_close(&extractor);
 }
 
-/* Sources that there aren't, pushes of nothing, bytes behind a picture and behind the end. */
+/* Sources that don't exist, pushes of no bytes, and bytes after a picture and after the end. */
 static void sources(const bytes *one) {
     gq_merger merger = {0};
     gq_picture picture;
@@ -111,7 +112,7 @@ static void sources(const bytes *one) {
     gq_merger_close(&merger);
 }
 
-/* Behind an end that is told while a picture is held no bytes are taken either, and it stays the end. */
+/* If the end is declared while a picture is held, no bytes are taken after it either, and it stays the end. */
 static void ends(const bytes *one) {
     gq_extractor extractor = GQ_CLOSED;
     gq_picture picture;
@@ -129,7 +130,7 @@ static void ends(const bytes *one) {
     gq_extractor_close(&extractor);
 }
 
-/* A picture is the same one until it is taken; it is told of, and of its line as much as there is room for. */
+/* gq_merger_next describes the same picture until it is taken, and taking it needs enough room. */
 static void pictures(const bytes *one, const bytes *merged) {
     gq_merger merger = {0};
     gq_picture picture = {0}, again = {0};
@@ -150,7 +151,7 @@ static void pictures(const bytes *one, const bytes *merged) {
     gq_merger_close(&merger);
 }
 
-/* A line is put into as much room as there is. */
+/* A line is cut to the room that there is. */
 static void lines(const bytes *one) {
     static const char *line = "M3 picture 0 source 1\n";
     gq_corner beside[2] = {{0, 0}, {32, 0}};

@@ -1,31 +1,32 @@
 /*
- * Merges that scripts/bench-c.sh measures. No test: times depend on the machine.
- * Usage: measure push PIECE X,Y=FILE ..    reads the files and hands them in in pieces of so many bytes, as they are wanted
- *        measure whole X,Y=FILE ..         reads the files whole, and does gq_run
- *        measure latency FILE              microseconds from the last byte of a picture to its merge, for 4, 16 and 64 sources of that
- *                                          stream of one picture, 64 luma samples wide
- *        measure stack KIB X,Y=FILE ..     as push, on a thread with so much stack
+ * Runs merges that scripts/bench-c.sh measures. Not a test, because times depend on the machine.
+ *
+ * Usage: measure push PIECE X,Y=FILE ..    reads the files, and pushes pieces of PIECE bytes as the merger needs them
+ *        measure whole X,Y=FILE ..         reads the files whole, and calls gq_run
+ *        measure latency FILE              prints the microseconds from the last byte of a picture to its merge, with 4, 16 and 64
+ *                                          sources; FILE has one picture, 64 luma samples wide
+ *        measure stack KIB X,Y=FILE ..     as push, on a thread with KIB KiB of stack
  */
 #define _POSIX_C_SOURCE 200112L
 #include "whole.h"
 #include <pthread.h>
 #include <time.h>
 
-/* A file that is read in parts, and handed in in pieces. */
+/* A file that is read in parts and pushed in pieces. */
 typedef struct source {
     FILE *file;
     uint8_t part[65536];
     size_t at, len;
 } source;
 
-/* What a merge is made of. */
+/* The arguments of a merge. */
 typedef struct job {
     gq_corner corners[64];
     const char *names[64];
     size_t count, piece;
 } job;
 
-/* The corners and the files of words as `64,0=NAME`. */
+/* Returns the corners and files of arguments such as `64,0=NAME`. */
 static job job_of(char **words, size_t count, size_t piece) {
     job made;
     CHECK(count && count <= 64);
@@ -39,7 +40,7 @@ static job job_of(char **words, size_t count, size_t piece) {
     return made;
 }
 
-/* Hands in the next piece of a file, or tells its end. */
+/* Pushes the next piece of a file, or declares its end. */
 static void hand_in(gq_merger *merger, size_t k, source *from, size_t piece) {
     size_t taken;
     if (from->at == from->len) {
@@ -55,7 +56,7 @@ static void hand_in(gq_merger *merger, size_t k, source *from, size_t piece) {
     from->at += taken;
 }
 
-/* Takes the picture that waits, and writes it. */
+/* Takes the picture that is ready, and writes it. */
 static void write_picture(gq_merger *merger, const gq_picture *picture) {
     static uint8_t *room;
     static size_t len;
@@ -86,7 +87,7 @@ static void *push_all(void *of) {
     return 0;
 }
 
-/* The same by gq_run. */
+/* Does the same merge by gq_run. */
 static void run_all(const job *it) {
     bytes streams[64];
     char words[8192] = "merge";
@@ -100,7 +101,7 @@ static void run_all(const job *it) {
     CHECK(made.status == GQ_DONE && fwrite(made.out.at, 1, made.out.len, stdout) == made.out.len);
 }
 
-/* On a thread with so much stack. */
+/* Does the merge of push_all on a thread with `kib` KiB of stack. */
 static void push_on_thread(job *it, size_t kib) {
     pthread_attr_t with;
     pthread_t thread;
@@ -108,7 +109,7 @@ static void push_on_thread(job *it, size_t kib) {
     CHECK(pthread_create(&thread, &with, push_all, it) == 0 && pthread_join(thread, 0) == 0);
 }
 
-/* Microseconds from the call that hands in the last byte to the merge being there: the least of 200 times. */
+/* Returns the microseconds from the call that pushes the last byte until the merged picture is ready, the least of 200 runs. */
 static double latency(const bytes *one, size_t count) {
     static gq_corner corners[64];
     double best = 1;

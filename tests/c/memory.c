@@ -1,9 +1,11 @@
 /*
- * Each allocation of the library fails in turn: a merge, an extraction and gq_run then answer GQ_NO_MEMORY behind a front of what
- * they write, or go as ever; and nothing is left allocated.
+ * Makes each allocation of the library fail in turn. A merge, an extraction and gq_run have to return GQ_NO_MEMORY after a prefix of their
+ * output, or to end as without a failure. Nothing may stay allocated.
+ *
  * Usage: memory STORED MERGED   (a stored stream, and the stored merge of it with itself, side by side)
- * Linked with --wrap=malloc, --wrap=realloc and --wrap=free: only calls of the library are counted, since the program's own are made
- * while `failing` is 0.
+ *
+ * Link with --wrap=malloc, --wrap=realloc and --wrap=free. Only allocations of the library are counted and fail, because `failing` is 0
+ * while this program allocates.
  */
 #include "pushed.h"
 
@@ -11,7 +13,7 @@ void *__real_malloc(size_t size);
 void *__real_realloc(void *at, size_t size);
 void __real_free(void *at);
 
-/* Which allocation fails, 0 for none; how many were made; and how many of them are there still. */
+/* Which allocation fails, 0 for none; how many were made since `failing` was set; and how many blocks are allocated. */
 static size_t failing, made;
 static long held;
 
@@ -34,7 +36,7 @@ void __wrap_free(void *at) {
     __real_free(at);
 }
 
-/* Whether it was as ever, or memory was wanted behind a front of what is written. */
+/* Ends the program unless the output is whole, or a prefix of it came before GQ_NO_MEMORY. */
 static void judge(const char *what, size_t n, uint8_t status, const uint8_t *out, size_t len, const bytes *whole) {
     int front = len <= whole->len && memcmp(out, whole->at, len) == 0;
     if (!front || !(status == GQ_NO_MEMORY || ((status == GQ_DONE || status == GQ_ENDED) && len == whole->len))) {
@@ -43,7 +45,7 @@ static void judge(const char *what, size_t n, uint8_t status, const uint8_t *out
     }
 }
 
-/* Merges with the n-th allocation failing. Answers whether there were as many. */
+/* Merges, with allocation n failing. Returns whether there were n allocations. */
 static int merge_with(size_t n, const bytes *one, const bytes *whole) {
     static const gq_corner corners[2] = {{0, 0}, {64, 0}};
     static uint8_t out[65536];
@@ -73,7 +75,7 @@ static int merge_with(size_t n, const bytes *one, const bytes *whole) {
     return made >= n;
 }
 
-/* The same for an extraction. */
+/* Extracts, with allocation n failing. Returns whether there were n allocations. */
 static int extract_with(size_t n, const bytes *from, const bytes *whole) {
     static uint8_t out[65536];
     gq_extractor extractor = {0};
@@ -101,7 +103,7 @@ static int extract_with(size_t n, const bytes *from, const bytes *whole) {
     return made >= n;
 }
 
-/* The same for gq_run. */
+/* Calls gq_run, with allocation n failing. Returns whether there were n allocations. */
 static int run_with(size_t n, const bytes *two, const bytes *whole) {
     static const char *words = "merge\n0,0=a\n64,0=a";
     static uint8_t out[4096], err[GQ_LINE_ROOM];

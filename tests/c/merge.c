@@ -1,13 +1,14 @@
 /*
- * A merge that is pushed in pieces is the one of gq_run on the same streams: its bytes, its status and its line, whatever the
- * sizes of the pieces, whichever source is handed its bytes first, and whether or not each unit is flushed.
+ * Tests that a merge of pushed streams has the bytes, the status and the line of gq_run on the same streams, for several sizes of pieces
+ * and three orders of the sources.
+ *
  * Usage: merge X,Y=FILE ..
  */
 #include "pushed.h"
 
 #define ROOM (1u << 24)
 
-/* The corner and the file of a word, as `64,0=NAME`. */
+/* Reads the corner of an argument such as `64,0=NAME`, and returns the name of its file. */
 static const char *corner_of(const char *word, gq_corner *corner) {
     char *behind;
     corner->x = (uint32_t) strtoul(word, &behind, 10);

@@ -1,20 +1,20 @@
-/* A merge and an extraction that are pushed, to their end. */
+/* Runs a merge to its end, over streams that are pushed in pieces. */
 #ifndef PUSHED_H
 #define PUSHED_H
 
 #include "whole.h"
 
-/* How bytes are handed in: what is wanted, each source in turn whether or not it is wanted, or the last source first. */
+/* Which source is pushed next: the one that the merger needs, or all that take bytes, from the first or from the last. */
 enum order { AS_WANTED, IN_TURN, FROM_THE_LAST };
 
-/* A source, and how many of its bytes were handed in. */
+/* A source, and how many of its bytes were taken. */
 typedef struct source {
     const bytes *all;
     size_t at;
     int ended;
 } source;
 
-/* Hands in the next piece of a source, or tells its end. Answers whether any of that was taken. */
+/* Pushes the next piece of a source, or declares its end. Returns whether anything was taken. */
 static int hand_in(gq_merger *merger, source *from, size_t k, size_t piece) {
     size_t rest = from->all->len - from->at, len = rest < piece ? rest : piece, taken = 9;
     if (from->ended) return 0;
@@ -29,7 +29,7 @@ static int hand_in(gq_merger *merger, source *from, size_t k, size_t piece) {
     return taken != 0;
 }
 
-/* Hands in to all sources what they take. */
+/* Pushes to all sources as much as they take. */
 static void hand_in_all(gq_merger *merger, source *from, size_t count, size_t piece, enum order order) {
     for (size_t i = 0; i < count; i++) {
         size_t k = order == FROM_THE_LAST ? count - 1 - i : i;
@@ -37,7 +37,7 @@ static void hand_in_all(gq_merger *merger, source *from, size_t count, size_t pi
     }
 }
 
-/* Takes the picture that waits. With less room nothing is written, and it waits on. */
+/* Takes the picture that is ready, and first checks that with too little room nothing is written and the picture stays. */
 static void take_picture(gq_merger *merger, const gq_picture *picture, bytes *to) {
     uint8_t *room = malloc(picture->bytes + 1);
     CHECK(room);
@@ -50,7 +50,7 @@ static void take_picture(gq_merger *merger, const gq_picture *picture, bytes *to
     free(room);
 }
 
-/* Merges streams, handed in in pieces, to the end. */
+/* Merges streams that are pushed in pieces, to the end. */
 static outcome merge_in(const gq_corner *corners, const bytes *streams, size_t count, size_t piece, enum order order) {
     gq_merger merger = {0};
     gq_picture picture;
@@ -82,7 +82,7 @@ static outcome merge_in(const gq_corner *corners, const bytes *streams, size_t c
     return made;
 }
 
-/* Whether a pushed merge came to what a whole run did. Where memory is wanted, there may be none for the line. */
+/* Returns whether a pushed merge ended as a run of gq_run did. If memory ran out, there may be none for the line. */
 static int agrees(const outcome *pushed, const outcome *whole) {
     uint8_t status = pushed->status == GQ_ENDED ? GQ_DONE : pushed->status;
     return status == whole->status && same(&whole->out, pushed->out.at, pushed->out.len)

@@ -1,12 +1,13 @@
 /*
- * gq_run: the program's words over streams in memory.
+ * Tests gq_run: outputs, lines, too little room, and misuse.
+ *
  * Usage: run STORED MERGED   (a stored stream, and the stored merge of it with itself, side by side)
  */
 #include "whole.h"
 
 #define ROOM 65536
 
-/* A run that is to answer this. `out` may be null, where nothing is written. */
+/* Runs a command, and checks its status, its output and its line. A null `out` means no output. */
 static void expect(const char *words, const bytes *streams, size_t count, uint8_t status, const bytes *out, const char *line) {
     outcome made = run_in(words, streams, count, ROOM);
     if (made.status != status || !tells(&made, line)) {
@@ -17,7 +18,7 @@ static void expect(const char *words, const bytes *streams, size_t count, uint8_
     free(made.out.at);
 }
 
-/* The merge, where there is room, and in each room that is too small. */
+/* Merges with enough room, and with each smaller room. */
 static void rooms(const bytes *two, const bytes *merged) {
     for (size_t room = 0; room <= merged->len; room++) {
         outcome made = run_in("merge\n0,0=a\n64,0=a", two, 2, room);
@@ -28,7 +29,7 @@ static void rooms(const bytes *two, const bytes *merged) {
     }
 }
 
-/* A line in each room that is too small: the front of it, and the same status. */
+/* With too little room for a line, a prefix of it is written, and the status is the same. */
 static void lines(const bytes *two) {
     const char *words = "merge\n0,0=a\n32,0=a", *line = "M3 picture 0 source 1\n";
     bytes all = bytes_of(two[0].at, two[0].len);
@@ -44,7 +45,7 @@ static void lines(const bytes *two) {
     free(all.at);
 }
 
-/* Streams that aren't as many as the words name, or whose lengths don't come to the bytes; and words that are no text. */
+/* Too few or too many streams, lengths that don't add up to the bytes, and arguments that aren't valid UTF-8. */
 static void misused(const bytes *one) {
     uint8_t out[256], err[GQ_LINE_ROOM];
     size_t written, told, lengths[3] = {one->len, one->len, 0};

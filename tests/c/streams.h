@@ -1,4 +1,4 @@
-/* What the tests of the library share: bytes of files, and a test that ends the program. */
+/* What the tests of the library share: bytes of files, and a check that ends the program if it fails. */
 #ifndef STREAMS_H
 #define STREAMS_H
 
@@ -15,7 +15,7 @@
         } \
     } while (0)
 
-/* Bytes that a test owns. There is one more behind them, so that the pointer is one where there are none. */
+/* Bytes that a test owns. One more is allocated, so that `at` isn't null if `len` is 0. */
 typedef struct bytes {
     uint8_t *at;
     size_t len;

@@ -1,5 +1,6 @@
 /*
- * Handles and threads: merges on several threads at once, and a merge each of whose steps is made on a thread of its own, are that of gq_run.
+ * Tests handles on threads: several merges at once, and a merge whose every step runs on a new thread, give what gq_run gives.
+ *
  * Usage: threads X,Y=FILE ..
  */
 #define _POSIX_C_SOURCE 200112L
@@ -13,7 +14,7 @@ static gq_corner corners[64];
 static bytes streams[64];
 static size_t count;
 
-/* A merge that goes from thread to thread. */
+/* A merge that goes from thread to thread, and its outcome so far. */
 typedef struct step {
     gq_merger merger;
     source from[64];
@@ -26,7 +27,7 @@ static void *merge_all(void *to) {
     return 0;
 }
 
-/* Hands in one piece, or takes a picture. */
+/* Advances by one step: pushes a piece, or takes a picture. */
 static void *go_on(void *of) {
     step *it = of;
     gq_picture picture;

@@ -1,11 +1,11 @@
-/* gq_run over streams in memory. */
+/* Runs gq_run on streams in memory. */
 #ifndef WHOLE_H
 #define WHOLE_H
 
 #include "goosequince.h"
 #include "streams.h"
 
-/* What a run answered and wrote. */
+/* What a run returned and wrote. */
 typedef struct outcome {
     uint8_t status;
     bytes out;
@@ -13,10 +13,10 @@ typedef struct outcome {
     size_t told;
 } outcome;
 
-/* The most streams that a test runs over. */
+/* The most streams of a run. */
 #define MOST_STREAMS 256
 
-/* Runs words over streams, with so much room for what is written. Behind the room stand bytes that nothing may write. */
+/* Runs a command on streams, with `room` bytes for the output. Checks that the eight bytes after these stay as they are. */
 static outcome run_in(const char *words, const bytes *streams, size_t count, size_t room) {
     outcome made;
     bytes all = bytes_of("", 0);
