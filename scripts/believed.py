@@ -1,11 +1,11 @@
 #!/usr/bin/env python3
-"""Makes docs/generated/BELIEVED.md and docs/generated/believed/: what each promise rests on, found by names.
+"""Makes docs/generated/BELIEVED.md and docs/generated/believed/: the definitions, tables and types that each promise rests on.
 
     scripts/believed.py [--check | --of NAME]
 
-A definition of specs/ rests on what its text names: what its file defines, and what the `use` lines of the file bring. So do
-constants and tables of src/, by the `use` lines of Rust, types by what their fields are and by what clauses see of them, and
-macros that write rows. From the definitions that say a promise this leads to all that it rests on.
+A definition of specs/ rests on what its text names: names that its file defines, and names that the `use` lines of the file bring.
+Constants and tables of src/ do so by the `use` lines of Rust. A type rests on the types of its fields and on what its `impl Model` says,
+and a macro on what its rows name. The script follows these names from the definitions that state a promise.
 
 With --check nothing is written, and the status is 1 if a page isn't what would be written. --of prints what the definitions of
 that name rest on. Names that can't be resolved are reported on standard error. scripts/numbers.py takes its numbers from here.
@@ -23,10 +23,10 @@ ROOT = pathlib.Path(__file__).resolve().parent.parent
 CRATES = ROOT / "crates"
 PAGE = ROOT / "docs/generated/BELIEVED.md"
 FOLDER = ROOT / "docs/generated/believed"
-# The function whose clauses are the promise as a whole, and the traits that it asks of what it is handed.
+# The function whose clauses are the whole promise, and the traits that its arguments implement.
 RUN = ("vx_run.src.program", "run")
 TRAITS = {("vx_io.src.read", "Source"), ("vx_io.src.write", "Sink")}
-# Each promise: its key in scripts/numbers.py, a letter for the lists, its name, and the definitions that say it.
+# Each promise: its key in scripts/numbers.py, its letter in the lists, its name, and the definitions that state it.
 READERS = "vx_pic.specs.H266.AreOfH266"
 PROMISES = (
     ("show", "s", "`show`", ("vx_run.specs.Show.Shows",)),
@@ -45,20 +45,20 @@ PROMISES = (
     ("whole", "", "`run` and the last write of `main`", ("vx_run.specs.Whole.RunsWhole",)),
 )
 WORD = r"[^\W\d][\w']*"
-# A clause of H.266, as `7.4.3.4`, `C.6`, `clause 9` or `Annex B`; and what says that something is the project's own.
+# A clause of H.266, as `7.4.3.4`, `C.6`, `clause 9` or `Annex B`; and the words that mark something as the project's own.
 CLAUSE = re.compile(r"\b(?:(?:[3-9]|[A-D])(?:\.\d+)+|Annex [A-D]|[Cc]lause \d+(?:\.\d+)*)")
 OWN = re.compile(r"\b[Oo]ur own\b")
 RESERVED = {
     *"abbrev as axiom case data do else in infixl let module mod of pub record then unfoldable use where if".split(),
     *"Type Unit tt ℕ ℤ λ _".split(),
 }
-# A file with more names than these has their number on the page; and so have all files of a crate with ten times as many.
+# If a file has more names than these, the page gives their number instead. So it does for all files of a crate with ten times as many.
 MOST_NAMED = 30
 
 
 @dataclass(eq=False)
 class Item:
-    """A definition, a constant, a table, a type or a macro: where it stands, what is said above it, and its text."""
+    """A definition, a constant, a table, a type or a macro: its place, the comment above it, and its text."""
 
     module: str
     name: str
@@ -76,43 +76,44 @@ class Item:
 
     @property
     def crate(self):
-        """Its crate."""
+        """Returns its crate."""
         return self.module.partition(".")[0]
 
     @property
     def path(self):
-        """Its file, in the crate's folder."""
+        """Returns its file, in the crate's folder."""
         return path_of(self.module)
 
     @property
     def source(self):
-        """Where it is told what it restates: the comment that it goes with, its heading, or the head of its file; or None."""
+        """Returns where its source is stated: the comment that it goes with, its heading, or the head of its file; or None."""
         return next((text for text in self.told if CLAUSE.search(text) or OWN.search(text)), None)
 
     @property
     def cites(self):
-        """It cites a clause of H.266."""
+        """Returns whether it cites a clause of H.266."""
         return bool(self.source and CLAUSE.search(self.source))
 
     @property
     def is_own(self):
-        """It is said to be the project's own, and cites no clause."""
+        """Returns whether it is marked as the project's own, and cites no clause."""
         return bool(self.source and not CLAUSE.search(self.source))
 
     @property
     def inner(self):
-        """It serves bodies and proofs alone."""
+        """Returns whether only bodies and proofs use its file."""
         return ".specs.inner" in self.module
 
     @property
     def apart(self):
-        """It stands where no promise looks: among what serves bodies and proofs alone, or among statements of laws."""
+        """Returns whether no promise looks at its file: only bodies and proofs, or statements of laws, use it."""
         return is_apart(self.module)
 
 
 @dataclass
 class Module:
-    """A file: its items; what its `use` lines bring, by the name that it has here; and the files that have a short name here."""
+    """A file: its items, the names that its `use` lines bring, each with what it means here, and the files that have a short name here.
+    """
 
     name: str
     head: str = ""
@@ -136,17 +137,17 @@ TROUBLE = set()
 
 
 def trouble(line):
-    """Keeps what couldn't be resolved."""
+    """Keeps a message about something that couldn't be resolved."""
     TROUBLE.add(line)
 
 
 def is_apart(module):
-    """A file stands in specs/inner/ or specs/laws/."""
+    """Returns whether a file is in specs/inner/ or specs/laws/."""
     return bool(re.search(r"\.specs\.(?:inner|laws)\b", module))
 
 
 def path_of(module):
-    """The file of a module, in its crate's folder."""
+    """Returns the file of a module, in its crate's folder."""
     _, part, rest = module.split(".", 2)
     return f"{part}/{rest.replace('.', '/')}." + ("antt" if part == "specs" else "rt")
 
@@ -155,7 +156,7 @@ def path_of(module):
 
 
 def masked(text, mark):
-    """The text with blanks in place of comments and of what stands in quotes."""
+    """Returns the text with blanks in place of comments and of quoted text."""
     quoted = r'b?"(?:[^"\\]|\\.)*"'
     letter = r"b?'(?:[^'\\\n]|\\.)'" if mark == "//" else "(?!)"
     pattern = re.compile(rf"{quoted}|{letter}|{mark}[^\n]*", re.S)
@@ -163,13 +164,13 @@ def masked(text, mark):
 
 
 def said(line, mark):
-    """What a line of comment says; None where it is none."""
+    """Returns the text of a comment line; None if the line is no comment."""
     m = re.match(rf"\s*{mark}[/!]?(?: (.*))?$", line)
     return None if m is None else (m[1] or "").strip()
 
 
 def above(lines, at, mark):
-    """The comment right above a line."""
+    """Returns the comment right above a line."""
     found = []
     while at > 0:
         at -= 1
@@ -183,7 +184,7 @@ def above(lines, at, mark):
 
 
 def head_of(lines, mark):
-    """The comment that a file begins with."""
+    """Returns the comment that a file begins with."""
     found = []
     for line in lines:
         text = said(line, mark)
@@ -194,12 +195,12 @@ def head_of(lines, mark):
 
 
 def sentence(text):
-    """The first sentence of a comment, without the point that ends it."""
+    """Returns the first sentence of a comment, without its full stop."""
     return re.split(r"(?<=[^.])\.(?: (?=[A-Z`(0-9])|$)", text, maxsplit=1)[0].rstrip(",:")
 
 
 def size_of(text):
-    """How many lines have something."""
+    """Returns how many lines aren't empty."""
     return sum(1 for line in text.split("\n") if line.strip())
 
 
@@ -207,7 +208,7 @@ BRACKET = re.compile(r"[()\[\]{}]")
 
 
 def close_of(text, at):
-    """The place behind the bracket that closes the one at a place."""
+    """Returns the place after the bracket that closes the one at a place."""
     depth = 0
     for m in BRACKET.finditer(text, at):
         depth += 1 if m[0] in "([{" else -1
@@ -226,7 +227,7 @@ FIELD = re.compile(rf"^(\s*)pub {WORD} :", re.M)
 
 
 def take_uses(module, text):
-    """Takes what the `use` lines of clauses bring."""
+    """Reads the `use` lines of clauses."""
     for path, names, short in USES.findall(text):
         if short:
             module.short[short].add(path)
@@ -236,14 +237,14 @@ def take_uses(module, text):
 
 
 def blocks_of(text):
-    """Where blocks with parameters begin and end, and the parameters."""
+    """Returns where blocks with parameters begin and end, and the parameters."""
     for m in BLOCK.finditer(text):
         end = re.compile(r"^\S", re.M).search(text, m.end())
         yield m.start(), end.start() if end else len(text), m[1]
 
 
 def spec_module(crate, path):
-    """The module of a file of specs/."""
+    """Returns the module of a file of specs/."""
     name = ".".join(path.relative_to(CRATES / crate / "specs").with_suffix("").parts)
     raw = path.read_text()
     lines = raw.split("\n")
@@ -284,7 +285,7 @@ CLAUSES = re.compile(r"\b(?:(requires|ensures)(?: \w+)? \{|ghost (?!use\b)(\w+) 
 
 
 def split_list(text):
-    """The parts of a list with commas, those in inner brackets apart."""
+    """Returns the parts of a list with commas; commas in inner brackets don't separate."""
     parts, depth = [""], 0
     for letter in text:
         depth += {"{": 1, "}": -1}.get(letter, 0)
@@ -296,7 +297,7 @@ def split_list(text):
 
 
 def use_tree(text):
-    """The paths of a `use` line of Rust, each with the name that it has here."""
+    """Returns the paths of a `use` line of Rust, each with its name here."""
     brace = text.find("{")
     if brace < 0:
         path, _, here = (part.strip() for part in text.partition(" as "))
@@ -310,7 +311,7 @@ def use_tree(text):
 
 
 def end_of_item(text, at):
-    """Where an item of Rust ends, from a place in it on."""
+    """Returns where an item of Rust ends, given a place in it."""
     while m := re.compile(r"[;({\[]").search(text, at):
         if m[0] == ";":
             return m.end()
@@ -321,7 +322,7 @@ def end_of_item(text, at):
 
 
 def text_of_table(text, name):
-    """The text of a table that stands in a macro, without what is around it."""
+    """Returns the text of a table in a macro, without the macro around it."""
     m = re.compile(rf"^macro_rules! {name} \{{\n    \(\$as:ident\) => \{{ \$as! (?=\{{)", re.M).search(text)
     if not m:
         sys.exit(f"{name} isn't a macro with the text of a table, as docs/TABLES.md has it")
@@ -329,7 +330,7 @@ def text_of_table(text, name):
 
 
 def rust_item(module, m, lines):
-    """An item of Rust."""
+    """Returns an item of Rust."""
     name = m[2] or m[4] or m[6]
     kind = "constant" if m[1] else "type" if m[3] else "macro"
     body = module.text[m.start() : end_of_item(module.text, m.end())]
@@ -345,7 +346,7 @@ def rust_item(module, m, lines):
 
 
 def code_module(crate, path):
-    """The module of a file of src/."""
+    """Returns the module of a file of src/."""
     name = ".".join(path.relative_to(CRATES / crate / "src").with_suffix("").parts)
     raw = path.read_text()
     lines = raw.split("\n")
@@ -365,16 +366,16 @@ def code_module(crate, path):
     return module
 
 
-# ---- what a definition binds itself
+# ---- names that a definition binds itself
 
 
 def words_in(text):
-    """The names in a text, those behind a point aside."""
+    """Returns the names in a text, except those after a point."""
     return re.findall(rf"(?<![\w'.]){WORD}", text)
 
 
 def pattern_names(item):
-    """The names in the patterns of a definition by cases, and among the parameters of a record."""
+    """Returns the names in the patterns of a definition by cases, and among the parameters of a record."""
     own = item.name.strip("◌")
     begins = re.compile(rf"\s*{re.escape(own)}(?!\S)" if own == item.name else rf".*\s{re.escape(own)}\s")
     text = re.sub(r"\{\w+ = (\w+)\}", r"\1", item.text)
@@ -385,13 +386,13 @@ def pattern_names(item):
 
 
 def inner_names(text):
-    """The names that a text binds further in, as well as that is seen."""
+    """Returns the names that a text binds further in, as far as this can be seen."""
     patterns = (r"λ([^.]*)\.", rf"[({{]\s*({WORD}(?:\s+{WORD})*)\s*:(?!:)", r"\blet\b([^=:]*)", r"^\s*(.*?)←")
     return {name for pattern in patterns for front in re.findall(pattern, text, re.M) for name in words_in(front)}
 
 
 def without_fields(item):
-    """The text of a definition without the names of what it has: fields, or what it is by cases."""
+    """Returns the text of a definition without the names of its fields or variants."""
     text = FIELD.sub(r"\1:", item.text)
     return re.sub(rf"^(\s+){WORD}(?: {WORD})* :", r"\1:", text, flags=re.M) if item.parts else text
 
@@ -403,7 +404,7 @@ IN_RUST = re.compile(r"(?<![\w.:])(\w+(?:::\w+)*)(!?)")
 
 
 class House:
-    """All files, and what names in them stand for."""
+    """All files, and what names in them mean."""
 
     def __init__(self):
         self.crates = {path.name for path in CRATES.iterdir() if path.is_dir()}
@@ -420,17 +421,17 @@ class House:
             self.find_views(module)
 
     def keep(self, module):
-        """Keeps a module."""
+        """Adds a module."""
         self.modules[module.name] = module
 
     def items(self, *kinds):
-        """The items of these kinds, file by file."""
+        """Returns the items of these kinds, file by file."""
         return [item for module in self.modules.values() for item in module.items.values() if item.kind in kinds]
 
-    # -- by the paths of clauses
+    # -- by paths in clauses
 
     def declared(self, crate, path, name):
-        """What a path to a file of src/ and a name in it stand for: a constant, a type, or the type of a variant."""
+        """Returns what a path to a file of src/ and a name in it mean: a constant, a type, or the type of a variant."""
         *front, last = path.split(".")
         if last == "TheConstants":
             module = self.modules.get(f"{crate}.src.{'.'.join(front)}")
@@ -443,7 +444,7 @@ class House:
         return module and module.items.get(last)
 
     def at_path(self, path, name, depth=0):
-        """What a path of a clause and a name in it stand for; a word of the kit stands for its path."""
+        """Returns what a path in a clause and a name in it mean; for a name of the kit, its path."""
         crate, _, rest = path.partition(".")
         if crate not in self.crates:
             return f"{path}.{name}"
@@ -453,22 +454,22 @@ class House:
         return self.in_spec(module, name, depth + 1) if module and depth < 5 else None
 
     def in_spec(self, module, name, depth=0):
-        """What a name stands for in clauses of a file."""
+        """Returns what a name means in the clauses of a file."""
         if ".specs." in module.name and (item := module.items.get(name) or module.parts.get(name)):
             return item
         return next((self.at_path(path, given, depth) for path, given in module.brought.get(name, ())), None)
 
     def check_uses(self, module):
-        """Says which names of `use` lines stand for nothing."""
+        """Reports the names of `use` lines that mean nothing."""
         for targets in module.brought.values():
             for path, given in targets:
                 if path.startswith("vx_") and self.at_path(path, given) is None:
                     trouble(f"{path_of(module.name)} of {module.name.partition('.')[0]}: use .. {given}: not found in {path}")
 
-    # -- by the paths of Rust
+    # -- by paths in Rust
 
     def at_rust(self, module, path, depth=0):
-        """What a path of Rust stands for in a file."""
+        """Returns what a path of Rust means in a file."""
         if depth > 6:
             return None
         crate, _, here = module.name.split(".", 2)
@@ -485,12 +486,12 @@ class House:
         return inside and self.in_code(inside, parts[-1], depth + 1)
 
     def file_at(self, parts):
-        """The file of a path of Rust that begins with a crate."""
+        """Returns the file of a path of Rust that begins with a crate."""
         name = ".".join(parts[1:])
         return self.modules.get(f"{parts[0]}.src.{name or 'lib'}") or (None if name else self.modules.get(f"{parts[0]}.src.main"))
 
     def in_code(self, module, name, depth=0):
-        """What a name stands for in a file of code."""
+        """Returns what a name means in a file of code."""
         if name in module.items:
             return module.items[name]
         if module.rust.get(name, name) != name:
@@ -503,17 +504,16 @@ class House:
         return None
 
     def macro(self, module, name):
-        """The macro that a file calls by this name."""
+        """Returns the macro that a file calls by this name."""
         crate = module.rust.get(name, "crate").split("::")[0].replace("crate", module.name.partition(".")[0])
         files = (one for one in self.modules.values() if one.name.startswith(f"{crate}.src."))
         return next((one.items[f"{name}!"] for one in files if f"{name}!" in one.items), None)
 
-    # -- what texts name
+    # -- names in texts
 
     def of_clause(self, module, text, bound=frozenset()):
-        """What a text of clauses names in a file: items, words of the kit, and names that stand for nothing that is known.
-
-        A name that is bound is none of these, unless it is a case of what is given by cases.
+        """Returns what a text of clauses names in a file: items, names of the kit, and names that mean nothing known. A bound name is
+        none of these, unless it is a variant of a type.
         """
         found, kit, strange, hidden = set(), set(), set(), set()
         for m in NAMED.finditer(text):
@@ -534,7 +534,7 @@ class House:
         return found, kit, strange, {(name, one) for name, one in hidden if one not in found}
 
     def meanings(self, module, name):
-        """What a name stands for in clauses of a file; in a file of code each of its blocks has `use` lines of its own."""
+        """Returns what a name means in the clauses of a file. In a file of code each block has `use` lines of its own."""
         if ".specs." in module.name:
             return list(filter(None, [self.in_spec(module, name)]))
         return list(filter(None, (self.at_path(path, given) for path, given in module.brought.get(name, ()))))
@@ -566,7 +566,7 @@ class House:
             trouble(f"{where} names {name}, which stands for nothing that is known")
 
     def of_variant(self, module, path):
-        """The type of a variant of a path of Rust."""
+        """Returns the type of a variant, by the variant's path in Rust."""
         return self.at_rust(module, path.rpartition("::")[0]) if "::" in path else None
 
     def find_views(self, module):
@@ -582,7 +582,7 @@ class House:
 
 
 def is_label(text, m):
-    """A name is that of a field that gets a value, as in `record { at = 0; .. }`."""
+    """Returns whether a name is that of a field that gets a value, as in `record { at = 0; .. }`."""
     after = m.end()
     while after < len(text) and text[after] in " \n":
         after += 1
@@ -598,13 +598,13 @@ def is_label(text, m):
 
 
 def last_before(starts, found, at):
-    """The last of what is found that begins before a place."""
+    """Returns the last match that begins before a place."""
     place = bisect.bisect_left(starts, at) - 1
     return found[place] if place >= 0 else None
 
 
 def clauses_of(module):
-    """The clauses of a file of code: whether others see them, the function or trait that has them, and their text."""
+    """Returns the clauses of a file of code: whether other crates see them, their function or trait, and their text."""
     text = module.text
     tops = list(re.finditer(r"^(?!ghost|use|\s|[})\]#]).*$", text, re.M))
     functions = list(RUST_FN.finditer(text))
@@ -621,7 +621,7 @@ def clauses_of(module):
 
 
 def contracts(house):
-    """What clauses name: those of functions that others see, those of the others and of bodies, and those of `run`."""
+    """Returns what clauses name: those that other crates see, all others with those of bodies, and those of `run`."""
     public, inner, run = set(), set(), set()
     for module in house.modules.values():
         if ".src." not in module.name:
@@ -640,7 +640,7 @@ def contracts(house):
 
 
 def named_by_proofs(house):
-    """What the files of proofs name."""
+    """Returns what the files of proofs name."""
     found = set()
     for path in CRATES.glob("*/proofs/**/*.antt"):
         text = masked(path.read_text(), "--")
@@ -656,7 +656,7 @@ def named_by_proofs(house):
 
 
 def closure(roots):
-    """These, and all that they rest on."""
+    """Returns these items, and all that they rest on."""
     found, waiting = set(), list(roots)
     while waiting:
         item = waiting.pop()
@@ -667,7 +667,7 @@ def closure(roots):
 
 
 def roots_of(house, names):
-    """The definitions that say a promise."""
+    """Returns the definitions that state a promise."""
     found = set()
     for path in names:
         module, _, name = path.rpartition(".")
@@ -728,27 +728,27 @@ Letters in brackets say which promises rest on a definition: `s` `show`, `e` `ex
 
 
 def of_kind(items, *kinds):
-    """Those of these kinds."""
+    """Returns the items of these kinds."""
     return [item for item in items if item.kind in kinds]
 
 
 def lines_of(items):
-    """How many lines they have."""
+    """Returns how many lines they have."""
     return sum(item.size for item in items)
 
 
 def number(n):
-    """A number as pages have it."""
+    """Returns a number as pages show it."""
     return f"{n:,}"
 
 
 def many(n, word):
-    """So many of something."""
+    """Returns a number with its noun, singular or plural."""
     return f"{number(n)} {word}{'' if n == 1 else 's'}"
 
 
 def counts_of(found):
-    """How much is among these, by name, in the order of the columns."""
+    """Returns how many of each kind are among these, by name, in the order of the columns."""
     definitions, tables = of_kind(found, "definition"), of_kind(found, "table")
     constants = of_kind(found, "constant")
     fields = [item for item in constants if item.crate == "vx_fields" and not item.module.startswith("vx_fields.src.names")]
@@ -767,7 +767,7 @@ def counts_of(found):
 
 
 def promise_table(everything):
-    """The table of promises."""
+    """Returns the table of promises."""
     columns = "promise | | said by | definitions | lines | files | cite H.266 | our own | tables | their lines | fields | other constants | types"
     rows = [("run", "", "**`run` as a whole**", ("run", "Runs")), *PROMISES]
     text = f"| {columns} |\n|{'---|' * 3}{'--:|' * 10}\n"
@@ -779,7 +779,7 @@ def promise_table(everything):
 
 
 def order_of(nodes, edges):
-    """The nodes, each before those that it has an edge to: those with the longest way to the ground first."""
+    """Returns the nodes, each before those that it has an edge to. Nodes with the longest way down come first."""
     heights = {}
 
     def height(node, way=()):
@@ -791,7 +791,7 @@ def order_of(nodes, edges):
 
 
 def edges_between(items, name_of):
-    """What names of items have edges to."""
+    """Returns the edges from items to the items that they name."""
     edges = defaultdict(set)
     for item in items:
         edges[name_of(item)] |= {name_of(one) for one in item.uses if one in items} - {name_of(item)}
@@ -799,7 +799,7 @@ def edges_between(items, name_of):
 
 
 def groups_of(module, found):
-    """The definitions of a file that are found, together if one comment or heading stands above them; and what that says of them."""
+    """Returns those definitions of a file that are found, in groups that share a comment or heading, each with the text of that."""
     groups, heading = [], None
     for item in module.items.values():
         if item.comment or item.heading != heading:
@@ -813,19 +813,19 @@ def groups_of(module, found):
 
 
 def ordered(letters):
-    """Letters, each once and in the order of the promises."""
+    """Returns letters without repetition, in the order of the promises."""
     return "".join(dict.fromkeys(letter for _, letter, _, _ in PROMISES if letter in letters))
 
 
 def source_mark(text, shown):
-    """What a text cites, or that it says that something is our own, if that doesn't stand in what is shown of it."""
+    """Returns what a text cites, or that it marks something as our own, if the part that the page shows doesn't have this."""
     cited = [clause for clause in dict.fromkeys(CLAUSE.findall(text)) if clause not in shown]
     own = ["our own"] if OWN.search(text) and not CLAUSE.search(text) and not OWN.search(shown) else []
     return f" ({', '.join(cited or own)})" if cited or own else ""
 
 
 def definition_lines(module, found, letters):
-    """The lines of a file's definitions."""
+    """Returns the page's lines of a file's definitions."""
     own = {letters[item] for item in module.items.values() if item in found}
     for comment, items in groups_of(module, found):
         first = sentence(comment)
@@ -838,7 +838,7 @@ def definition_lines(module, found, letters):
 
 
 def file_text(module, found, letters):
-    """What a page has of a file of definitions."""
+    """Returns what the page has of a file of definitions."""
     own = {letters[item] for item in module.items.values() if item in found}
     mark = f" ({own.pop() or 'run'})" if len(own) == 1 else ""
     name = path_of(module.name).removeprefix("specs/")
@@ -847,7 +847,7 @@ def file_text(module, found, letters):
 
 
 def names_by_file(items):
-    """Items file by file: their names, or how many they are."""
+    """Returns items file by file: their names, or how many they are."""
     files = defaultdict(list)
     for item in items:
         files[item.path].append(item.name)
@@ -860,7 +860,7 @@ def names_by_file(items):
 
 
 def beside(house, crate, found):
-    """What a page has of the code of its crate."""
+    """Returns what the page has of the code of its crate."""
     items = [item for item in house.items("table", "constant", "type", "macro") if item.crate == crate and item in found]
     lines = []
     for kind in ("table", "macro", "constant", "type"):
@@ -871,7 +871,7 @@ def beside(house, crate, found):
 
 
 def crate_page(house, crate, found, letters):
-    """The page of a crate."""
+    """Returns the page of a crate."""
     modules = [m for m in house.modules.values() if m.name.startswith(f"{crate}.specs.") and not is_apart(m.name)]
     kept = {item for m in modules for item in m.items.values() if item in found}
     names = {item.module for item in kept}
@@ -890,7 +890,7 @@ def crate_page(house, crate, found, letters):
 
 
 def crate_row(house, crate, found):
-    """The line of a crate in the index."""
+    """Returns the line of a crate in the index."""
     counts = counts_of([item for item in found if item.crate == crate])
     heads = [house.modules[name].head for name in (f"{crate}.src.lib", f"{crate}.src.main") if name in house.modules]
     shown = (counts[name] for name in ("definitions", "lines", "tables", "table_lines", "constants", "types"))
@@ -899,7 +899,7 @@ def crate_row(house, crate, found):
 
 
 def twice_text(house, found):
-    """The names that mean two things; except `>>=`, which is how a do block is read, whatever it is of."""
+    """Returns the names that mean two things, except `>>=`, which stands for every do block."""
     meanings = defaultdict(list)
     for item in house.items("definition"):
         for name in (item.name, *item.parts):
@@ -922,7 +922,7 @@ def twice_text(house, found):
 
 
 def dead_text(house, found, public, inner):
-    """What serves no promise and no contract that others see."""
+    """Returns what serves neither a promise nor a contract that other crates see."""
     served = closure(public) | found
     by_bodies, by_proofs = closure(inner), closure(named_by_proofs(house))
     lists = defaultdict(list)
@@ -946,7 +946,7 @@ def dead_text(house, found, public, inner):
 
 
 def neither(found):
-    """How many definitions cite a clause, say that they are our own, or neither; and which say neither."""
+    """Returns how many definitions cite a clause, are marked as our own, or do neither; and which do neither."""
     definitions = of_kind(found, "definition")
     cite = [item for item in definitions if item.cites]
     by_comment = sum(item.source is item.comment for item in cite)
@@ -957,7 +957,7 @@ def neither(found):
 
 
 def kit_text(found):
-    """The words of the kit."""
+    """Returns the names of the kit that the pages mention."""
     modules = defaultdict(set)
     for item in found:
         for path in item.kit:
@@ -974,7 +974,7 @@ The definitions use {number(sum(map(len, modules.values())))} names of the Rattl
 
 @functools.cache
 def house_and_found():
-    """All files, what each promise rests on, by its key, and what contracts name."""
+    """Returns all files, what each promise rests on, by its key, and what contracts name."""
     house = House()
     public, inner, run = contracts(house)
     found = {key: closure(roots_of(house, says)) for key, _, _, says in PROMISES}
@@ -982,13 +982,13 @@ def house_and_found():
 
 
 def numbers():
-    """The numbers of the table of promises, by `PROMISE.WHAT`; for scripts/numbers.py."""
+    """Returns the numbers of the table of promises, by `PROMISE.WHAT`, for scripts/numbers.py."""
     _, everything, _, _ = house_and_found()
     return {f"{key}.{what}": n for key, found in everything.items() for what, n in counts_of(found).items()}
 
 
 def pages():
-    """The text of each page, by its path."""
+    """Returns the text of each page, by its path."""
     house, everything, public, inner = house_and_found()
     all_found = set().union(*everything.values())
     letters = defaultdict(str)
@@ -1009,13 +1009,13 @@ def pages():
 
 
 def differing(made):
-    """The pages that aren't what they should be, or shouldn't be there."""
+    """Returns the pages that aren't what they should be, or shouldn't exist."""
     found = {path: path.read_text() for path in [PAGE, *FOLDER.glob("*.md")] if path.exists()}
     return sorted(path for path in made.keys() | found.keys() if made.get(path) != found.get(path))
 
 
 def write(made):
-    """Writes the pages, and removes those of crates that promises rest on no more."""
+    """Writes the pages, and removes those of crates that no promise rests on any more."""
     FOLDER.mkdir(parents=True, exist_ok=True)
     for path in differing(made):
         if path in made:
@@ -1025,7 +1025,7 @@ def write(made):
 
 
 def tell_of(house, name):
-    """What the definitions of a name rest on, a line each."""
+    """Prints what the definitions of a name rest on, a line each."""
     for item in house.items("definition"):
         if item.name == name:
             print(f"{item.crate} {item.path}: {name}")
@@ -1034,7 +1034,7 @@ def tell_of(house, name):
 
 
 def main():
-    """Writes the pages, compares them, or tells of a definition."""
+    """Writes the pages, compares them, or prints what a definition rests on."""
     parser = argparse.ArgumentParser(description="Makes docs/generated/BELIEVED.md and believed/, what each promise rests on.")
     parser.add_argument("--check", action="store_true", help="only compare; the status is 1 if a page differs")
     parser.add_argument("--of", metavar="NAME", help="print what the definitions of this name rest on")

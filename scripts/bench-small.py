@@ -1,12 +1,13 @@
 #!/usr/bin/env python3
-"""What small pictures cost: merges of families of streams, of 64 sources of tiny pictures, and an extraction, by one or several programs in turn.
+"""Measures what small pictures cost: merges of families of streams and of 64 sources of tiny pictures, and an extraction.
 
 usage: scripts/bench-small.py [--families DIR] [--times N] [--instructions] PROGRAM ..
 
-PROGRAM is a built program; of several each is told beside the first one, as the text before a change and the text behind it. DIR has families of
-streams, NAME_0.vvc .. beside a MANIFEST.json with their corners. Times are processor time, the best of N runs (5), and of a merged picture.
-With --instructions those of a picture are counted too, by callgrind, as the difference of a long run and a short one, without copying and
-clearing. All programs have to write the same bytes. No test: times depend on the machine.
+Each PROGRAM is a built program. With several, each figure also has its ratio to that of the first one, so a program can be compared with
+the one before a change. DIR has families of streams: NAME_0.vvc .. with a MANIFEST.json that has their corners. Prints a line for each
+case: processor time per merged picture, the best of N runs (5 by default). With --instructions it also counts instructions per picture,
+by callgrind, as the difference of a long and a short run, without functions that copy and clear memory. All programs have to write the
+same bytes. Not a test, because times depend on the machine.
 """
 import argparse
 import hashlib
@@ -22,19 +23,21 @@ from long_streams import joined, units_of, write
 from small_streams import Steady
 
 HERE = pathlib.Path(__file__).resolve().parent
-# The shorter and the longer of two runs whose instructions are counted, in rounds of a case.
+# The shorter and the longer of the two runs whose instructions are counted, in pictures.
 ROUNDS = (40, 140)
 COPIES = re.compile(r"mem(move|cpy|set)")
 
 
 class Case:
-    """A command over files, each of them one stream written so many times: its words before the files, and of each its corner and stream."""
+    """A command over files, each of which is one stream written several times: its arguments before the files, and the corner and
+    stream of each file.
+    """
 
     def __init__(self, name, words, sources, pictures, times):
         self.name, self.words, self.sources, self.pictures, self.times = name, words, sources, pictures, times
 
     def command(self, program, work, times):
-        """Its words, of files that are written into a folder."""
+        """Returns its command line, over files that it writes into a folder."""
         files = {}
         for corner, stream in self.sources:
             if stream not in files:
@@ -44,12 +47,12 @@ class Case:
 
 
 def row(stream, count):
-    """So many sources of one stream side by side."""
+    """Returns `count` sources of one stream, side by side."""
     return [(f"{k * 64},0=", stream) for k in range(count)]
 
 
 def cases(program, families):
-    """What is measured: the program makes the stream that is extracted from."""
+    """Returns the cases. The stream to extract from is made by the program."""
     if families:
         for family in json.loads((families / "MANIFEST.json").read_text()):
             sources = [(f"{it['x']},{it['y']}=", (families / it["file"]).read_bytes()) for it in family["sources"]]
@@ -64,7 +67,7 @@ def cases(program, families):
 
 
 def processor_time(command):
-    """The processor time of a run, in seconds."""
+    """Returns the processor time of a run, in seconds."""
     with open(os.devnull, "wb") as null:
         child = subprocess.Popen(command, stdout=null)
         _, status, used = os.wait4(child.pid, 0)
@@ -74,7 +77,7 @@ def processor_time(command):
 
 
 def instructions(command, work):
-    """The instructions of a run, without those that copy and clear."""
+    """Returns the number of instructions of a run, without those that copy and clear memory."""
     out = f"{work}/callgrind"
     subprocess.run(
         ["valgrind", "--tool=callgrind", f"--callgrind-out-file={out}", *command], stdout=subprocess.DEVNULL, stderr=subprocess.DEVNULL, check=True
@@ -85,7 +88,7 @@ def instructions(command, work):
 
 
 def same_bytes(case, programs):
-    """Stops where the programs don't write the same."""
+    """Exits if the programs don't write the same bytes."""
     with tempfile.TemporaryDirectory() as work:
         wrote = {hashlib.md5(subprocess.run(case.command(it, work, 3), stdout=subprocess.PIPE, check=True).stdout).hexdigest() for it in programs}
     if len(wrote) != 1:
@@ -93,7 +96,7 @@ def same_bytes(case, programs):
 
 
 def measure(case, programs, times):
-    """The least processor time of each program, in turn, in microseconds a picture."""
+    """Returns the least processor time of each program, in microseconds per picture. The programs take turns."""
     with tempfile.TemporaryDirectory() as work:
         commands = [case.command(it, work, case.times) for it in programs]
         least = [min(column) for column in zip(*([processor_time(it) for it in commands] for _ in range(times)))]
@@ -101,7 +104,7 @@ def measure(case, programs, times):
 
 
 def count(case, program):
-    """The instructions of a picture, in thousands."""
+    """Returns the number of instructions per picture, in thousands."""
     totals = []
     for rounds in ROUNDS:
         with tempfile.TemporaryDirectory() as work:
@@ -111,7 +114,7 @@ def count(case, program):
 
 
 def shares(numbers, digits):
-    """Numbers, and behind the first one each one's share of it."""
+    """Returns the numbers as text, each except the first one with its ratio to the first one."""
     told = [f"{numbers[0]:,.{digits}f}"]
     told += [f"{it:,.{digits}f} ({it / numbers[0]:.2f})" for it in numbers[1:]]
     return "  ".join(told)

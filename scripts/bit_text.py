@@ -1,8 +1,8 @@
-"""Bits as text, and what crates/vx_vectors answers where they are refused."""
+"""Writes bits as text, and refusals as crates/vx_vectors prints them."""
 
 
 class Bits:
-    """Bits that are written one behind the other."""
+    """Bits that are written one after another."""
 
     def __init__(self):
         self.text = ""
@@ -16,16 +16,16 @@ class Bits:
 
 
 def hexadecimal(bits):
-    """The bytes of bits, with a one and zeros behind them, in hexadecimal."""
+    """Returns the bytes of bits, completed by a one and zeros, in hexadecimal."""
     padded = bits + "1" + "0" * (-(len(bits) + 1) % 8)
     return bytes(int(padded[i:i + 8], 2) for i in range(0, len(padded), 8)).hex()
 
 
 def end_of(digits):
-    """The place of the last one in bytes."""
+    """Returns the place of the last one bit in bytes."""
     return "".join(format(byte, "08b") for byte in bytes.fromhex(digits)).rindex("1")
 
 
 def refused_syntax(field, bit, cause):
-    """The answer to what is refused at a field."""
+    """Returns the output line for a refusal at a field."""
     return f"refused Y field={field} bit={bit} cause={cause}"

@@ -1,15 +1,15 @@
-"""Lines that ask about a call by itself, with their answers, for crates/vx_vectors: what no vector of a model shows. Worked by hand."""
+"""Lines of crates/vx_vectors for single calls, with their expected output: cases that no vector of a model has. Worked by hand."""
 from bit_text import Bits, end_of, hexadecimal, refused_syntax
 from list_lines import list_lines
 
 
 def read_whole(word, digits, items):
-    """The line of a structure of levels, DPBs or timing that is read to its end, and its answer."""
+    """Returns the line of a structure of levels, DPBs or timing that is read to its end, and its expected output."""
     return f"{word} {digits}", f"at={end_of(digits)} {items} | written same"
 
 
 def level_lines():
-    """Profile, tier and level, DPB parameters, timing, and the fronts of video parameter sets."""
+    """Returns lines on profile, tier and level, DPB parameters, timing, and the first fields of video parameter sets."""
     yield "vps 0000", "ok 1=0 2=0 3=0"
     yield "vps fff0", "ok 1=15 2=63 3=6"
     yield "vps fff8", refused_syntax(3, 10, "OutOfRange")
@@ -28,8 +28,8 @@ def level_lines():
 
 
 def longest_lines():
-    """The longest structures up to sublayer 6: all constraints and further bits, all levels and 255 sub-profiles; seven entries of the
-    longest codes, 31 zeros and 32 ones each; 32 CPBs of both kinds for each of seven sublayers.
+    """Returns lines on the longest structures, up to sublayer 6: all constraints and further bits, all levels and 255 sub-profiles;
+    seven entries of the longest codes, 31 zeros and 32 ones each; 32 CPBs of both kinds for each of seven sublayers.
     """
     items = ["11=127 12=1 13=255 14=1 15=1 16=1", *["17=1"] * 71, "18=255", *["19=1"] * 255, *["20=1"] * 6, *["21=255"] * 6, "22=255",
              *["23=4294967295"] * 255]
@@ -44,7 +44,7 @@ def longest_lines():
 
 
 def refused_lines():
-    """What is refused of these structures, behind the items that come before."""
+    """Returns lines that are refused, with the items before the refusal."""
     for line, items, field, bit, cause in (
             ("ptl 1,0 023381802801", "11=1 12=0 13=51 14=1 15=0 16=0", 20, 19, "BadAlignment"),
             ("ptl 1,0 023380812801", "11=1 12=0 13=51 14=1 15=0 16=0 20=1", 21, 25, "BadAlignment"),
@@ -57,8 +57,8 @@ def refused_lines():
 
 
 def count_lines():
-    """Picture order counts: of a CRA picture, of a second one, which later ones may refer to or not, of a third, and of a CRA picture behind
-    an end of sequence; and the largest and the smallest count, and one beyond.
+    """Returns lines on picture order counts: of a CRA picture, of a second one, which later ones may refer to or not, of a third, and
+    of a CRA picture after an end of sequence; and the largest and the smallest count, and one beyond.
     """
     yield "count 4,3 - 1 0 0", "3"
     yield "count 4,15 - 0 3 3", "-1"
@@ -80,14 +80,14 @@ def count_lines():
 
 
 def difference_lines():
-    """Where the decoding input of a shown picture's slice differs from another."""
+    """Returns lines on where the decoding input of a shown picture's slice differs from another."""
     for other, told in (("616=1 0 5a80", "same"), ("616=0 0 5a80", "part=4 field=616"), ("616=1 1 5a80", "part=11 field=0"),
                         ("616=1 0 5a81", "part=12 field=0")):
         yield f"differ 616=1 0 5a80 {other}", told
 
 
 def feed_lines():
-    """Feeds over sources without a unit to read: zeros, a read that fails, and bytes that are no unit."""
+    """Returns lines on feeds over sources without a unit to read: zeros, a read that fails, and bytes that are no unit."""
     for piece in (1, 60):
         yield f"feed {piece} - 00000000", "Ok(End) Ok(End) Ok(End) units=0 open=false"
     for call in (0, 1, 2):
@@ -98,8 +98,8 @@ def feed_lines():
 
 
 def printed_lines():
-    """Lines that the program prints, each with its line feed: of units and of pictures, and of refusals at unit 3 of source 2 in picture 5.
-    The last picture's number is the largest one.
+    """Returns lines that the program prints, each with its line feed: of units, of pictures, and of refusals at unit 3 of source 2 in
+    picture 5. The last picture's number is the largest one.
     """
     for nal_type, tid, offset, length in ((15, 0, 4, 20), (0, 6, 0, 2), (31, 1, 2**40, 2**23)):
         line = f'{{"bytes":{length},"offset":{offset},"tid":{tid},"type":{nal_type}}}\n'
@@ -111,7 +111,7 @@ def printed_lines():
 
 
 def refusal_lines():
-    """Lines of refusals."""
+    """Returns the lines of refusals."""
     for refusal, line in (
             ("F 1 0", "F1 source 2 byte 0"), ("F 2 7", "F2 source 2 byte 7"), ("F 3 1099511627775", "F3 source 2 byte 1099511627775"),
             ("Y 22 40 Short", "Y source 2 unit 3 field 22 bit 40 Short"),
@@ -136,7 +136,7 @@ def refusal_lines():
 
 
 def call_lines():
-    """All lines of calls, each with its answer."""
+    """Returns all lines for single calls, each with its expected output."""
     yield from list_lines()
     yield from level_lines()
     yield from longest_lines()

@@ -1,4 +1,4 @@
-"""The lines of cases that crates/vx_cases reads, and those that it is to write; and the merges of others that are cases."""
+"""Collects the lines of the cases that crates/vx_cases reads with their expected output lines, and reads merges of others that become cases."""
 import json
 import os
 import re
@@ -9,24 +9,24 @@ PH = 19
 
 
 def units(stream):
-    """The NAL units of a byte stream."""
+    """Returns the NAL units of a byte stream."""
     return [part.rstrip(b"\0") for part in re.split(rb"\0\0\0*\x01", stream)[1:]]
 
 
 def picture_count(stream):
-    """How many pictures a stream has: each has a PH unit, or a slice that begins with a one and a picture header."""
+    """Returns how many pictures a stream has: each has a PH unit, or a slice that begins with a one and a picture header."""
     types = [(unit[1] >> 3, unit[2:3] >= b"\x80") for unit in units(stream)]
     return sum(kind == PH or kind in SLICES and inside for kind, inside in types)
 
 
 class Expected:
-    """What a case comes to: the status, the line on `err`, and what `out` gains."""
+    """What is expected of a case: the status, the line on `err`, and what is written to `out`."""
 
     def __init__(self, status=0, err="", out=b""):
         self.status, self.err, self.out = status, err, out
 
     def verdict(self):
-        """What the check of the same comes to."""
+        """Returns what is expected of the `check` of the same."""
         out = b"" if self.status else b"ok pictures %d\n" % picture_count(self.out)
         return Expected(self.status, self.err, out)
 
@@ -36,7 +36,7 @@ class Expected:
 
 
 def expected_of(line):
-    """What a line `status=S err=LINE out=BYTES` says, or one without `out`."""
+    """Returns what a line `status=S err=LINE out=BYTES` says, with or without `out`."""
     status, err, out = re.search(r"status=(\d+) err=(\S+)(?: out=(\S*))?", line).groups()
     return Expected(int(status), "" if err == "-" else err.replace("_", " "), unhex(out or ""))
 
@@ -45,12 +45,12 @@ def unhex(word):
     return bytes.fromhex("" if word == "-" else word)
 
 
-# A merge that others made: its name, the words behind `merge` of a level, the corners, the sources, and what it comes to.
+# A merge that others made: its name, its option for the level, the corners, the sources, and what is expected.
 Merge = namedtuple("Merge", "name level corners sources expected")
 
 
 def model_merges(path):
-    """The merges of an independent model, from its merge.txt."""
+    """Returns the merges of an independent model, from its merge.txt."""
     for line in open(path):
         words = line.split()
         if words[:1] == ["case"]:
@@ -64,7 +64,7 @@ def model_merges(path):
 
 
 def family_merges(folder):
-    """The families of real streams of a folder."""
+    """Returns the families of real streams of a folder."""
 
     def read(name):
         with open(os.path.join(folder, name), "rb") as file:
@@ -77,7 +77,7 @@ def family_merges(folder):
 
 
 def spelled(stream):
-    """Bytes, or parts of bytes, of which some are a byte and how often it stands, as words."""
+    """Returns bytes as words. Bytes may come in parts, each bytes or a pair of a byte and how often it is repeated."""
     words = []
     for part in stream if isinstance(stream, tuple) else (stream,):
         if isinstance(part, bytes):
@@ -89,34 +89,34 @@ def spelled(stream):
 
 
 class Cases:
-    """The lines of the cases, and those that they make."""
+    """The lines of the cases, and their expected output lines."""
 
     def __init__(self):
         self.given, self.made, self.names, self.count = [], [], {}, 0
-        # The merges and extractions of which nothing else is said, and what they come to.
+        # The merges and extractions without settings, and what is expected of them.
         self.plain = {}
 
     def about(self, text):
-        """What the cases behind this are of."""
+        """Adds a comment on the cases after it."""
         self.given += ["", f"# {text}"]
 
     def name(self, stream):
-        """The name of these bytes, which are told once."""
+        """Returns the name of these bytes, and adds a line for them the first time."""
         if stream not in self.names:
             self.names[stream] = f"s{len(self.names)}"
             self.given.append(f"stream {self.names[stream]} {spelled(stream)}")
         return self.names[stream]
 
     def named(self, name, stream):
-        """Names these bytes, which may have another name, by this one."""
+        """Gives these bytes this name, even if they have another name."""
         self.given.append(f"stream {name} {spelled(stream)}")
 
     def placed(self, corners, sources):
-        """The words that place sources at corners."""
+        """Returns the arguments that place sources at corners."""
         return " ".join(f"{corner}={self.name(source)}" for corner, source in zip(corners, sources))
 
     def case(self, words, expected, *settings, keep=None):
-        """A case, with the lines that hold for it."""
+        """Adds a case, with the lines that apply to it."""
         settings += (f"keep {keep}",) if keep else ()
         if not settings and words.startswith(("merge ", "extract ")):
             self.plain[words] = expected
@@ -125,17 +125,19 @@ class Cases:
         self.count += 1
 
     def line(self, words, made):
-        """A line of another verb, and what it makes."""
+        """Adds a line of another verb, and its expected output."""
         self.given.append(words)
         self.made.append(made)
 
     def checked(self, words, expected, *settings):
-        """A case of a command, and of its check."""
+        """Adds a case of a command, and one of its check."""
         self.case(words, expected, *settings)
         self.case("check " + re.sub(r"--level \d+ ", "", words), expected.verdict(), *settings)
 
     def merged(self, corners, sources, expected, level=""):
-        """A merge and its check; and where it has pictures, it is verified, and their subpictures are merged again to the same bytes."""
+        """Adds a merge and its check. If the merge has pictures, it is also verified, and its extracted subpictures are merged again to
+        the same bytes.
+        """
         words = self.placed(corners, sources)
         self.checked(f"merge {level}{words}", expected)
         if expected.status or not expected.out:

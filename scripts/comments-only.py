@@ -1,5 +1,10 @@
 #!/usr/bin/env python3
-"""comments-only.py OLD_COMMIT: the .rt and .antt files whose text without comments and blank lines isn't that of a commit; status 1 if there are any."""
+"""Lists the .rt and .antt files that differ from those of a commit in more than comments and blank lines. The status is 1 if there are any.
+
+    scripts/comments-only.py OLD_COMMIT
+
+The last line is `N files changed, M of them not only in comments`.
+"""
 import pathlib
 import re
 import subprocess
@@ -7,7 +12,8 @@ import sys
 
 TOP = pathlib.Path(__file__).resolve().parent.parent
 
-# What a file consists of, so that a comment mark within a string or a char literal is no comment. Names come whole: they may end with primes.
+# The tokens of a file, so that a comment mark within a string or a char literal is no comment. Names are taken whole, because they may
+# end with primes.
 RT = re.compile(
     r"""(?P<comment>//[^\n]*)
       | (?P<block>/\*)
@@ -29,7 +35,7 @@ ANTT = re.compile(
 
 
 def without_comments(text, form, ends):
-    """The lines of a text that are left without its comments, block comments (which nest) and blank lines."""
+    """Returns the lines of a text without its comments, block comments (which nest) and blank lines."""
     kept, at = [], 0
     while at < len(text):
         found = form.match(text, at)

@@ -31,7 +31,7 @@ ITEM = re.compile(
     r'^( *)(?:(pub) )?(?:(?:const|unsafe|extern "C") )*(fn|struct|enum|trait|type) (\w+)|^(impl)\b(?:<[^>]*>)? (.*?) \{|^}'
 )
 ENSURES = re.compile(r"\bensures(?: (\w+))? (?=\{)")
-# A clause without a name that is at most so long stands on the page itself.
+# A clause without a name is shown on the page if it has at most this many characters.
 SHORT = 60
 
 
@@ -49,14 +49,14 @@ class Offered:
 
 
 def crates():
-    """The crates in the order of crates.txt, each with those that it uses."""
+    """Returns the crates in the order of crates.txt, each with those that it uses."""
     lines = (line.split("#")[0] for line in (ROOT / "crates.txt").read_text().splitlines())
     split = (line.partition(":") for line in lines if ":" in line)
     return {name.split()[0]: used.split() for name, _, used in split}
 
 
 def in_order(used):
-    """The crates, each after those that it uses."""
+    """Returns the crates, each after those that it uses."""
     done = []
 
     def take(crate):
@@ -71,14 +71,14 @@ def in_order(used):
 
 
 def sentence(text):
-    """The first sentence of a description, with its point, and without links."""
+    """Returns the first sentence of a description, with its full stop and without links."""
     text = re.sub(r"\[(`[^`]*`|[^\]]*)\](?:\([^)]*\))?", r"\1", text)
     first = re.split(r"(?<=[^.]\.)(?: (?=[A-Z`(0-9*\[])|$)", text.strip(), maxsplit=1)[0].strip()
     return first if not first or first.endswith((".", ":")) else f"{first}."
 
 
 def description(lines, at):
-    """The description right above a line."""
+    """Returns the description right above a line."""
     found = []
     while at > 0:
         at -= 1
@@ -91,12 +91,12 @@ def description(lines, at):
 
 
 def first_paragraph(lines):
-    """The lines up to an empty one, as one."""
+    """Returns the lines up to an empty one, as one line."""
     return " ".join(lines[: lines.index("")] if "" in lines else lines)
 
 
 def heading(crate):
-    """The first sentence of the heading of a crate."""
+    """Returns the first sentence of the heading of a crate."""
     for name in ("lib.rt", "main.rt"):
         path = ROOT / "crates" / crate / "src" / name
         if path.exists():
@@ -106,7 +106,9 @@ def heading(crate):
 
 
 def clauses(text):
-    """The names of the clauses of a function, from its signature on; of one without a name what it uses first."""
+    """Returns the names of the clauses of a function, given the text from its signature on. A clause without a name has the name that
+    it uses first.
+    """
     end = re.search(r"^ *\{|;$|\{\}$| \{$(?!\n *(?:requires|ensures))", text, re.M)
     text = text[: end.start()] if end else text
     for m in ENSURES.finditer(text):
@@ -116,7 +118,7 @@ def clauses(text):
 
 
 def inner(text, at):
-    """What stands between the brace at a place and the one that closes it."""
+    """Returns the text between the brace at a place and the one that closes it."""
     depth = 0
     for m in re.compile(r"[{}]").finditer(text, at):
         depth += 1 if m[0] == "{" else -1
@@ -126,7 +128,7 @@ def inner(text, at):
 
 
 def items(path):
-    """The public types, functions and methods of a file, whatever other crates can name of it."""
+    """Returns the public types, functions and methods of a file, even those that other crates can't name."""
     text = path.read_text()
     lines, owner, trait = text.split("\n"), "", False
     starts = [0]
@@ -151,7 +153,7 @@ def items(path):
 
 
 def offered(crate):
-    """What other crates can name of a crate: its types with their methods, its functions and its laws."""
+    """Returns what other crates can name of a crate: its types with their methods, its functions and its laws."""
     src = ROOT / "crates" / crate / "src"
     text = (src / "lib.rt").read_text() if (src / "lib.rt").exists() else ""
     named = {word for use in re.findall(r"^pub use ([^;]*);", text, re.M) for word in re.findall(r"\w+", use.partition("::")[2])}
@@ -177,14 +179,14 @@ def offered(crate):
 
 
 def line_of(item, indent=""):
-    """The line of an item."""
+    """Returns the page's line of an item."""
     name = f"{item.owner}::{item.name}" if item.owner else item.name
     ensures = f" *Ensures* {', '.join(f'`{clause}`' for clause in item.clauses)}." if item.clauses else ""
     return f"{indent}- `{name}`{f': {item.said}' if item.said else ''}{ensures}\n"
 
 
 def crate_text(crate, used):
-    """What the page has of a crate."""
+    """Returns what the page has of a crate."""
     types, functions, laws = offered(crate)
     own = [f"[`{name}`](#{name})" for name in used if name.startswith("vx_")]
     text = f"## {crate}\n\n{heading(crate)}\n\nUses {', '.join(own)}.\n" if own else f"## {crate}\n\n{heading(crate)}\n"
@@ -199,7 +201,7 @@ def crate_text(crate, used):
 
 
 def page():
-    """The page."""
+    """Returns the page."""
     used = crates()
     return HEAD + "\n".join(crate_text(crate, used[crate]) for crate in in_order(used))
 

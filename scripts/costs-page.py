@@ -15,7 +15,7 @@ WHATS = {"wall": "the whole run", "processor": "all processors", "memory": "most
 
 
 def rows(name):
-    """The rows of a file of docs/measured by their first column."""
+    """Returns the rows of a file of docs/measured by their first column."""
     path = ROOT / f"docs/measured/{name}.tsv"
     if not path.exists():
         return {}
@@ -24,19 +24,19 @@ def rows(name):
 
 
 def dependencies():
-    """The crates of the repository that each crate names."""
+    """Returns the crates of the repository that each crate names."""
     lines = (line.partition("#")[0].strip() for line in (ROOT / "crates.txt").read_text().splitlines())
     named = {line.partition(":")[0].split()[0]: line.partition(":")[2].split() for line in lines if ":" in line}
     return {name: [dep for dep in deps if dep in named] for name, deps in named.items()}
 
 
 def seconds(row, part):
-    """The seconds of a part; 0 if they aren't known."""
+    """Returns the seconds of a part; 0 if they aren't known."""
     return int(row[part]) if row and row[part].isdigit() else 0
 
 
 def longest_chain(deps, gate):
-    """The chain of crates, each below the next one, whose proofs take longest one after another, and their seconds."""
+    """Returns the chain of crates, each below the next one, whose proofs take longest one after another, and their seconds."""
     found = {}
 
     def chain(crate):
@@ -49,7 +49,7 @@ def longest_chain(deps, gate):
 
 
 def said(text):
-    """A number as pages show it; nothing for what isn't known."""
+    """Returns a number as pages show it; an empty text if it isn't known."""
     return f"{int(text):,}" if str(text).isdigit() else ""
 
 

@@ -3,15 +3,14 @@
 
     scripts/doc_cases.py [--check]
 
-Each `goosequince` command of a console block (see doc_blocks.py) is a case, and the output that its page shows is the expected one. The
-cases stand at the end of crates/vx_cases/stdin between two lines that begin with `# Commands of the pages`; their expected lines stand
-at the end of crates/vx_cases/stdout. This script replaces these and leaves all else alone. Run it after scripts/make-cases.py too, which
-writes both files anew.
+Each `goosequince` command of a console block (see doc_blocks.py) is a case, and its expected output is what the page shows. The cases are
+at the end of crates/vx_cases/stdin, between two lines that begin with `# Commands of the pages`; their expected lines are at the end of
+crates/vx_cases/stdout. This script replaces only these. Run it after scripts/make-cases.py too, which writes both files anew.
 
-Input files are those of examples/film, those that earlier commands of the same page make by `> NAME`, and those that lines of its sh
-blocks make from files of examples/film by cat, head, tail and printf only. Output that goes to a file is kept and not compared; a later
-`show` or `verify` of it is. A command isn't a case if its page leaves lines out (`..`), because the expected output
-may not come from the program. These are printed, with the reason; scripts/guide.sh runs them too.
+Input files are those of examples/film, files that earlier commands of the same page make by `> NAME`, and files that lines of its sh blocks
+make from those of examples/film by cat, head, tail and printf. Output that goes to a file is kept and not compared, but the output of a
+later `show` or `verify` of it is. A command isn't a case if its page leaves lines out (`..`), because the expected output can't come from
+the program. The script prints these commands with the reason; scripts/guide.sh runs them too.
 
 With --check nothing is written; the status is 1 if the cases aren't those of the pages.
 """
@@ -48,11 +47,11 @@ TOOLS = {"cat", "head", "tail", "printf"}
 
 
 class NoCase(Exception):
-    """Why a command isn't a case."""
+    """Says why a command isn't a case."""
 
 
 def files_of(words):
-    """The arguments that name files, in the order of the program's sources."""
+    """Returns the arguments that name files, in the order of the program's sources."""
     if words[:1] == ["show"] or words[:1] == ["extract"] or words[:2] == ["check", "extract"]:
         return words[-1:]
     first = words[2:3] if words[:2] == ["verify", "merge"] else []
@@ -60,7 +59,7 @@ def files_of(words):
 
 
 def expected_of(command):
-    """What the page shows as a status, a line on standard error, and output."""
+    """Returns what the page shows as a status, a line on standard error, and output."""
     shown = list(command.shown)
     while shown and not shown[-1]:
         shown.pop()
@@ -77,7 +76,7 @@ def expected_of(command):
 
 
 def made_by(block, files):
-    """The files that those lines of a block of shell make of these which need no other tools."""
+    """Returns the files that lines of a shell block make from these with the tools above."""
     with tempfile.TemporaryDirectory() as folder:
         folder = pathlib.Path(folder)
         for path in FILM.glob("*.266"):
@@ -92,13 +91,13 @@ def made_by(block, files):
 
 
 class Block:
-    """The lines of the cases, and their expected ones."""
+    """The lines of the cases, and their expected output lines."""
 
     def __init__(self):
         self.given, self.made, self.left, self.named = [], [], [], {}
 
     def page(self, path):
-        """Takes the commands of a page, in the order of its blocks."""
+        """Adds the commands of a page, in the order of its blocks."""
         kept, files, name, begun = set(), {}, path.relative_to(ROOT), False
         for one in blocks(path):
             if one.kind == "sh":
@@ -115,7 +114,7 @@ class Block:
                     self.left.append(f"{name}:{command.line}: not a case, {reason}: {command.text}")
 
     def command(self, command, kept, files):
-        """Takes a command of a page, in which these names are kept output, and those are files that were made."""
+        """Adds a command of a page. `kept` names are outputs of earlier commands, and the others are files that were made."""
         expected, settings = expected_of(command), []
         for k, file in enumerate(files_of(command.words) if expected.status != 2 else []):
             if file in kept:
@@ -134,20 +133,20 @@ class Block:
         self.made.append(expected.line(command.output is not None))
 
     def name(self, name, stream):
-        """Names bytes, unless they have this name."""
+        """Names bytes, unless they have this name already."""
         if self.named.get(name) != stream:
             self.named[name] = stream
             self.given.append(f"stream {name} {spelled(stream)}")
 
 
 def pages():
-    """The pages, in the order in which a reader meets them."""
+    """Returns the pages, in the order in which a reader meets them."""
     first = [ROOT / "README.md", ROOT / "docs/GUIDE.md"]
     return [path for path in [*first, *sorted((ROOT / "docs").glob("*.md"))] if path.exists()]
 
 
 def block():
-    """The block of all pages."""
+    """Returns the block of all pages."""
     made, done = Block(), set()
     for path in pages():
         if path not in done:
@@ -157,7 +156,7 @@ def block():
 
 
 def stored():
-    """The lines of stdin and stdout without the block."""
+    """Returns the lines of stdin and stdout without the block."""
     given, made = ((CASES / name).read_text().splitlines() for name in ("stdin", "stdout"))
     if BEGIN not in given:
         return given, made
@@ -172,7 +171,7 @@ def stored():
 
 
 def texts(found):
-    """What stdin and stdout should be."""
+    """Returns the texts that stdin and stdout should have."""
     given, made = stored()
     if found.made:
         given += ["", BEGIN, *found.given, END]

@@ -68,14 +68,14 @@ WIDTH, MARGIN, TOP = 900, 14, 48
 BOX, HEIGHT, GAP = 128, 40, 34
 # The least distance between the middles of two lanes, between a lane and a box, and between two boxes.
 LANES, LANE_BOX, BOXES = 18, BOX / 2 + 14, BOX + 16
-# How far the ends of lines at a box are apart.
+# The distance between the ends of lines at a box.
 PORT = 11
-# How often places are made better, and how much a lane is drawn to the other lanes of its line.
+# How often places are improved, and how strongly a lane is drawn to the other lanes of its line.
 TURNS, STRAIGHT = 300, 12
 
 
 def uses(text):
-    """What each crate uses, without what follows from its other uses."""
+    """Returns what each crate uses, without what follows from its other uses."""
     lines = (line.partition("#")[0] for line in text.splitlines())
     named = {line.partition(":")[0].split()[0]: line.partition(":")[2].split() for line in lines if ":" in line}
     named = {name: [use for use in found if use in named] for name, found in named.items()}
@@ -88,7 +88,7 @@ def uses(text):
 
 
 def rows_of(used):
-    """The row of each crate: below all that it uses, and further down where that makes its lines shorter in all."""
+    """Returns the row of each crate: below all that it uses, and further down if that makes its lines shorter in total."""
     rows = {}
 
     def row(name):
@@ -110,7 +110,7 @@ def rows_of(used):
 
 
 def with_lanes(used, rows):
-    """The nodes of each row, crates and lanes, and the lines between neighbouring rows; a lane is a tuple."""
+    """Returns the nodes of each row, crates and lanes, and the lines between neighbouring rows. A lane is a tuple."""
     nodes = [[] for _ in range(max(rows.values()) + 1)]
     for name in used:
         nodes[rows[name]].append(name)
@@ -128,7 +128,7 @@ def with_lanes(used, rows):
 
 
 def neighbours(lines):
-    """The nodes above and those below each node."""
+    """Returns the nodes above and those below each node."""
     above, below = {}, {}
     for upper, lower in lines:
         above.setdefault(lower, []).append(upper)
@@ -137,7 +137,7 @@ def neighbours(lines):
 
 
 def crossings(first, second, below):
-    """How many lines between two rows cross."""
+    """Returns how many lines between two rows cross."""
     place = {node: k for k, node in enumerate(second)}
     ends = [place[end] for node in first for end in sorted(below.get(node, ()), key=place.get)]
     return sum(a > b for k, a in enumerate(ends) for b in ends[k + 1 :])
@@ -148,7 +148,9 @@ def total(nodes, below):
 
 
 def ordered(nodes, lines):
-    """The rows in an order with few crossings: by the mean place of neighbours, then by exchanges of two that stand together."""
+    """Returns the rows in an order with few crossings: sorted by the mean place of neighbours, then improved by exchanging adjacent
+    nodes.
+    """
     above, below = neighbours(lines)
     nodes = [list(row) for row in nodes]
     best, least = [list(row) for row in nodes], total(nodes, below)
@@ -182,18 +184,18 @@ def ordered(nodes, lines):
 
 
 def apart(one, other):
-    """The least distance between two nodes that stand together in a row."""
+    """Returns the least distance between two adjacent nodes of a row."""
     lanes = isinstance(one, tuple) + isinstance(other, tuple)
     return (BOXES, LANE_BOX, LANES)[lanes]
 
 
 def edge(node):
-    """How far a node's middle is from the border of the drawing at least."""
+    """Returns the least distance of a node's middle from the border of the drawing."""
     return MARGIN + (4 if isinstance(node, tuple) else BOX / 2)
 
 
 def placed(row, wanted, weights):
-    """Places for a row that are as near to the wanted ones as the distances let them be."""
+    """Returns places for a row that are as near to the wanted ones as the distances allow."""
     offsets = [0]
     for one, other in zip(row, row[1:]):
         offsets.append(offsets[-1] + apart(one, other))
@@ -210,7 +212,8 @@ def placed(row, wanted, weights):
 
 
 def places(nodes, lines):
-    """The place of each node across the drawing: near the mean of its neighbours, and the lanes of a line one below another."""
+    """Returns the place of each node across the drawing: near the mean of its neighbours, with the lanes of a line one below another.
+    """
     above, below = neighbours(lines)
     chains, at = {}, {}
     for row in nodes:
@@ -236,13 +239,13 @@ def places(nodes, lines):
 
 
 def ports(ends, at):
-    """Where the lines to these nodes leave a box, from its middle."""
+    """Returns where the lines to these nodes leave a box, measured from its middle."""
     ranked = sorted(ends, key=lambda end: at[end])
     return {end: PORT * (k - (len(ranked) - 1) / 2) for k, end in enumerate(ranked)}
 
 
 def drawing():
-    """The drawing as SVG."""
+    """Returns the drawing as SVG."""
     used = uses((ROOT / "crates.txt").read_text())
     assert set(used) == set(WORDS), f"words and crates differ: {sorted(set(used) ^ set(WORDS))}"
     rows = rows_of(used)

@@ -1,12 +1,17 @@
 #!/usr/bin/env python3
-"""Lists the must-fail edits and twins that don't apply: each `old:` text has to stand exactly once in its file. Status 1 if there are any."""
+"""Lists the must-fail edits and twins that don't apply: the `old:` text of an edit has to occur exactly once in its file.
+
+    scripts/edits-apply.py
+
+The last line is `N passed, M failed`, and the status is 1 if any failed.
+"""
 import sys
 
 from edit_files import ROOT, changed_texts, crate_of, gate_edits, script_edits, twins
 
 
 def fault(edit):
-    """Why an edit doesn't apply, or None."""
+    """Returns why an edit doesn't apply, or None."""
     try:
         changed_texts(edit, ROOT / "crates" / crate_of(edit))
     except (OSError, ValueError) as error:

@@ -1,15 +1,14 @@
 #!/usr/bin/env python3
-"""Cases of `--explain`: what the pages on refusals and fields say of each rule and of every fifth field, and words that say nothing.
+"""Cases of `--explain`: the texts of all rules and of every fifth field, and arguments that it doesn't know.
 
-Run alone, it puts them in place of those in crates/vx_cases: scripts/make-cases.py makes all cases, and reads files that aren't in the
-repository.
+Run alone, it replaces these cases in crates/vx_cases. scripts/make-cases.py makes all cases, but reads files that aren't in the repository.
 """
 from explanations import ROOT, fields, pages, rules
 from case_lines import Cases, Expected
 from told_cases import GRAY_LINES, not_understood, say
 from worked_cases import A, failed
 
-# One field of so many is asked for.
+# Every how many fields one is a case.
 STRIDE = 5
 
 
@@ -38,7 +37,7 @@ def add_explained(cases):
 
 
 def main():
-    """Replaces the lines of these cases, which are those from their first heading on to the next heading that isn't theirs."""
+    """Replaces the lines of these cases: from their first heading to the next heading that isn't theirs."""
     cases = Cases()
     add_explained(cases)
     files = [ROOT / "crates/vx_cases" / name for name in ("stdin", "stdout")]

@@ -3,12 +3,12 @@ r"""Makes crates/vx_explain/src/text.rt, what `--explain` prints of rules and fi
 
     scripts/explanations.py [--check]
 
-The two pages are the source: change a rule there, and a field in crates/vx_fields (scripts/list-fields.sh makes the page on fields), and run
-this. With --check nothing is written; the status is 1 if text.rt isn't what the pages make.
+The two pages are the source. To change a rule, edit its page; to change a field, edit crates/vx_fields and run scripts/list-fields.sh, which
+makes the page on fields. Then run this script. With --check nothing is written; the status is 1 if text.rt isn't what the pages make.
 
-The text is a run of parts with a bar between two. A part begins with its word and a blank, and is what the program prints, in lines of at
-most 78 characters. A rule has its cause and its fix, on lines of their own that begin under each other; `Y` has those of all reasons. A
-field has its name and sentence, its structure and clause, and, if it has a star, that it isn't compared.
+The text is a sequence of parts with a bar between two. A part begins with its word and a blank, and is what the program prints, in lines of
+at most 78 characters. A rule has its cause and its fix, each on lines of its own, aligned below each other; `Y` has those of all reasons.
+A field has its name and sentence, its structure and clause, and, if it has a star, that it isn't compared.
 
 On the page on refusals a rule is an item of a list: its word in bold, its cause, and after a line break its fix, with lists below these.
 """
@@ -31,37 +31,39 @@ HEAD = """\
 
 
 def plain(text):
-    """Text without Markdown's links, its line breaks, and its marks for bold and slanted words."""
+    """Returns text without Markdown's links, its line breaks, and its marks for bold and italics."""
     text = re.sub(r"\[([^]]*)\]\([^)]*\)", r"\1", text.removesuffix("\\"))
     return re.sub(r"(\*\*?)(\S(?:.*?\S)?)\1", r"\2", text)
 
 
 def filled(text, first="", later=""):
-    """A line of a page as lines of the program, with what each begins with."""
+    """Returns a line of a page as lines of the program, each with its indent."""
     return textwrap.fill(plain(text), WIDTH, initial_indent=first, subsequent_indent=later, break_on_hyphens=False) + "\n"
 
 
 def entry(item):
-    """A rule, an item of the page on refusals without its dash: its word and its cause, and all else under the cause."""
+    """Returns the text of a rule, an item of the page on refusals without its dash: its word and cause, and everything else below the
+    cause.
+    """
     word = re.match(r"\*\*(\w+)\*\* ", item).group(1)
     text, *others = item.rstrip().split("\n")
     return filled(text, "", " " * (len(word) + 1)) + under(others, " " * (len(word) + 1))
 
 
 def reason(item):
-    """An item that gives no rule, but a reason: a line of its words, and all else under these."""
+    """Returns the text of an item that gives a reason instead of a rule: a line of its words, and everything else below it."""
     words, cause, text = item.rstrip().partition("*Cause:*")
     return filled(words, "  ") + under(f"  {cause}{text}".split("\n"), "    ")
 
 
 def under(lines, indent):
-    """The lines of an item, each a text or an item of a list in it."""
+    """Returns the lines of an item, each a text or an item of a list in it."""
     texts = [line.removeprefix("  ") for line in lines]
     return "".join(filled(text, indent, indent + "  " * text.startswith("- ")) for text in texts)
 
 
 def rules(page):
-    """The parts of the page on refusals: a rule each, or a letter if its items have no numbers."""
+    """Returns the parts of the page on refusals: one for each rule, or for each letter whose items have no numbers."""
     for section in page.split("\n## ")[1:]:
         heading, *lines = section.rstrip().split("\n")
         letter, topic, example = re.fullmatch(r"(\w): (.*?) \((`.*`)\)", heading).groups()
@@ -75,14 +77,14 @@ def rules(page):
 
 
 def compared(name, star):
-    """What is added for a field that isn't compared."""
+    """Returns what is added for a field that isn't compared."""
     if star != "*":
         return ""
     return " Only `merge` compares it, among its sources (M2)." if name in MERGED else " It isn't compared between streams."
 
 
 def fields(page):
-    """The parts of the page on fields, a field each."""
+    """Returns the parts of the page on fields, one for each field."""
     for line in page.split("\n"):
         if line.startswith("Fields of "):
             structure = line.removeprefix("Fields of ")
@@ -92,7 +94,7 @@ def fields(page):
 
 
 def pages():
-    """The texts of the pages on refusals and on fields."""
+    """Returns the texts of the pages on refusals and on fields."""
     return [(ROOT / f"docs/{name}.md").read_text() for name in ("REFUSALS", "generated/FIELDS")]
 
 

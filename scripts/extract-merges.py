@@ -1,10 +1,11 @@
 #!/usr/bin/env python3
-"""Extracts each subpicture of merged streams, and compares it with the merge: its slices and picture headers are units of the merge, in
-order, all subpictures' slices together are all slices, and extracting subpicture 0 of an extraction gives the same bytes again.
+"""Extracts each subpicture of merged streams, and compares it with the merge.
 
 usage: scripts/extract-merges.py PROGRAM FOLDER
 
-PROGRAM is the built program. FOLDER holds merges NAME_m.vvc of NAME_0.vvc, NAME_1.vvc .. The status is 0 where all is as it should be.
+PROGRAM is the built program. FOLDER has merges NAME_m.vvc of NAME_0.vvc, NAME_1.vvc .. Three things are checked: the picture headers of
+an extraction are those of the merge, in order; the slices of all subpictures together are the slices of the merge; and extracting
+subpicture 0 of an extraction gives the same bytes again. Prints a line for each merge. The status is 1 if a check fails.
 """
 import glob
 import os
@@ -17,18 +18,18 @@ HEADERS = {19}
 
 
 def units(stream):
-    """The NAL units of a byte stream."""
+    """Returns the NAL units of a byte stream."""
     parts = re.split(rb"\x00\x00\x00*\x01", stream)[1:]
     return [part.rstrip(b"\0") for part in parts]
 
 
 def kept(stream, types):
-    """Those of some types."""
+    """Returns the units of some types."""
     return [unit for unit in units(stream) if unit[1] >> 3 in types]
 
 
 def extract(program, index, path):
-    """A subpicture of a file, as a stream of its own."""
+    """Returns a subpicture of a file, as a stream of its own."""
     return subprocess.run([program, "extract", str(index), path], capture_output=True, check=True).stdout
 
 
