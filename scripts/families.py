@@ -1,7 +1,9 @@
 #!/usr/bin/env python3
-"""The words of a merge for each family of a folder, a line each, as `0,0=DIR/a_0.vvc 64,0=DIR/a_1.vvc`.
+"""Prints the arguments of a merge for each family of streams in a folder, a line each, such as `0,0=DIR/a_0.vvc 64,0=DIR/a_1.vvc`.
 
-usage: scripts/families.py FOLDER   (with NAME_0.vvc .. beside a MANIFEST.json that has their corners)
+usage: scripts/families.py FOLDER
+
+FOLDER has the streams, NAME_0.vvc .., and MANIFEST.json with their corners.
 """
 import json
 import pathlib

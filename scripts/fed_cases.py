@@ -1,8 +1,8 @@
-"""Worked cases of `show`: streams that are taken, and streams that break a rule on how units follow one another, on what sets make up, or
-on what is out of reach, most of them with their last unit.
+"""Worked cases of `show`: streams that are accepted, and streams that break a rule, most of them with their last unit.
 
-Units stand in hexadecimal, each behind a start code of three bytes, and beside one stands the line that is told behind its own: of a set,
-or of the picture that it completes. The first four streams of sets that are missing are two of an independent model, each without a unit.
+The rules are those on the order of units, on sets that don't make up a picture, and on what isn't supported. Units are written in
+hexadecimal without their start codes of three bytes. A unit may come with the line that is shown after its own: that of a set, or of the
+picture that it completes. The first four streams with missing sets are two of an independent model, each without a unit.
 """
 from case_lines import Expected
 from told_cases import picture_line, pps_line, say_in_pieces, sps_line, told
@@ -26,23 +26,23 @@ FOUR = [("00790003023380000020204149091a4007bc00600c100020", sps_line(256, 64, 4
 
 
 def again(unit, number, poc=0):
-    """A unit that completes a picture of another number, of one subpicture and one slice."""
+    """Returns a unit that completes a picture of another number, with one subpicture and one slice."""
     return unit[0], picture_line(number, poc)
 
 
 def aps(digits):
-    """An adaptation parameter set, with the line that is told of it."""
+    """Returns an adaptation parameter set, with its line."""
     first = bytes.fromhex(digits)[2]
     return digits, f'{{"aps":{first % 32},"kind":{first >> 5}}}'
 
 
 def spelled(nal_units):
-    """The bytes of units."""
+    """Returns the bytes of units."""
     return [bytes.fromhex(unit if isinstance(unit, str) else unit[0]) for unit in nal_units]
 
 
 def lines_of(nal_units):
-    """What is told of units."""
+    """Returns the lines that are shown of units."""
     parts, offset = [], 0
     for unit, own in zip(nal_units, spelled(nal_units)):
         parts.append((offset + 3, len(own), own[1] >> 3, own[1] % 8 - 1))
@@ -52,8 +52,8 @@ def lines_of(nal_units):
 
 
 def shown(cases, nal_units, rule=None, at=None):
-    """What is told of a stream, or what it is refused for at a unit, which is its last one if none is named: the letter and the number of
-    the rule, and what else stands in its line.
+    """Adds a case of a stream: with all its lines, or with the rule that it breaks at unit `at`, by default its last one. `rule` is the
+    letter and number of the rule, and what else its line has.
     """
     name = cases.name(b"".join(b"\0\0\1" + unit for unit in spelled(nal_units)))
     if rule is None:
@@ -65,7 +65,7 @@ def shown(cases, nal_units, rule=None, at=None):
 
 
 def add_taken(cases):
-    """Streams that are taken to their end."""
+    """Adds streams that are accepted to their end."""
     cases.about("show: sets without a picture; two pictures; ends of sequence; another SPS where a sequence starts; what is passed over")
     shown(cases, [])
     shown(cases, ONES)
@@ -77,7 +77,7 @@ def add_taken(cases):
 
 
 def add_units_refused(cases):
-    """Streams whose last unit breaks a rule on how units follow one another."""
+    """Adds streams whose last unit breaks a rule on the order of units."""
     cases.about("show: sets that haven't come; a unit of layer 1; a slice without a picture header; a set between slices")
     shown(cases, [ONE], "S1 PPS 0")
     shown(cases, [ONE_PPS, ONE], "S1 SPS 0")
@@ -108,7 +108,7 @@ def add_units_refused(cases):
 
 
 def add_missing(cases):
-    """Slices whose header names an adaptation parameter set that hasn't come."""
+    """Adds slices whose header names an adaptation parameter set that hasn't come."""
     cases.about("show: no filter for chroma of a slice, no one for luma of a further slice, no luma mapping, no scaling lists")
     first = [("00795009feb840000320c548c6f894b09a83115492225c112bdd95de65eb2274ed512c35fa5414200cc1457db8ae43291e7c2840",
               '{"ctu":32,"height":48,"sps":5,"subpictures":2,"width":24}'),
@@ -131,7 +131,7 @@ def add_missing(cases):
 
 
 def add_layouts(cases):
-    """Sets that make up no picture."""
+    """Adds sets that make up no picture."""
     cases.about("show: a slice of a subpicture that there isn't")
     named = [("007900030233800000408105529001ef001803040008", sps_line(128, 64, 2)), TWO_PPS, HEADER, "00414c5aa780"]
     shown(cases, named, "S5")
@@ -150,7 +150,7 @@ def add_layouts(cases):
 
 
 def add_profiles(cases):
-    """Sets that are out of reach."""
+    """Adds sets that aren't supported."""
     cases.about("show: a unit of a further layer; an SPS of a VPS, without profile, in 4:2:2, of 11 bits, with palettes, of several sizes, "
                 "with virtual boundaries, with an extension")
     for number, unit in enumerate((
@@ -169,7 +169,7 @@ def add_profiles(cases):
 
 
 def add_long_messages(cases):
-    """As many bytes of messages as are gathered, and more."""
+    """Adds as many bytes of messages as are kept, and more."""
     cases.about("show: messages of 65,536 bytes, and of one more, in one unit and in two")
     start, end = b"\0\0\1\0\xb9\x93", b"\x80"
     longest = start, (b"\xff", 255), b"\xfe", (b"\x55", 65_279), end
@@ -181,7 +181,7 @@ def add_long_messages(cases):
 
 
 def long_picture(last):
-    """A picture of four slices, of which the last one has so many bytes: its stream, and what is told of the sets and of each slice."""
+    """Returns a stream of a picture of four slices, whose last slice has `size` bytes, and the lines of the sets and of each slice."""
     front = b"".join(b"\0\0\1" + unit for unit in spelled(FOUR))
     parts, offset, lines = [front], len(front), []
     for first, count in ((0x0C, 2**23), (0x2C, 2**23), (0x4C, 2**23), (0x6C, last)):
@@ -192,7 +192,7 @@ def long_picture(last):
 
 
 def add_long_pictures(cases):
-    """As many bytes as a picture can have, and one more."""
+    """Adds a picture with as many bytes as a picture may have, and one with one more."""
     cases.about("show: pictures of four slices, of as many bytes as a picture can have, and of one more")
     for last in (2**23 - 4, 2**23 - 3):
         source, lines = long_picture(last)

@@ -3,9 +3,9 @@
 
     scripts/field_names.py [--check]
 
-The constants are the source: `pub const NAME: u16 = NUMBER;`. With --check nothing is written; the status is 1 where text.rt isn't what
-would be. The text is the names in the order of their numbers, one after another; a list says for each number where its name begins,
-which is where that of the number before it ends. A number that no field has stands for nothing.
+The constants are the source: `pub const NAME: u16 = NUMBER;`. With --check nothing is written, and the status is 1 if text.rt isn't what
+would be written. The text is the names in the order of their numbers, one after another. A list says for each number where its name
+begins, which is where the name of the number before it ends. A number without a field has an empty name.
 """
 import argparse
 import pathlib
@@ -23,7 +23,7 @@ HEAD = """\
 
 
 def names():
-    """The name of each number, by number."""
+    """Returns the name of each number, by number."""
     found = {}
     for structure in STRUCTURES:
         for name, number in re.findall(r"^pub const ([a-z]\w*): u16 = (\d+);", (FIELDS / f"{structure}.rt").read_text(), re.M):
@@ -33,7 +33,7 @@ def names():
 
 
 def filled(numbers):
-    """Numbers in lines, as rt fmt lays them out."""
+    """Returns numbers in lines, as rt fmt formats them."""
     line, lines = "   ", []
     for number in numbers:
         word = f" {number},"
@@ -45,7 +45,7 @@ def filled(numbers):
 
 
 def made():
-    """The file."""
+    """Returns the text of the file."""
     named = names()
     places = [0]
     for number in range(max(named) + 1):

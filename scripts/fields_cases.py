@@ -1,7 +1,7 @@
 """Worked cases of `show --fields`: the fields of sets and headers by their names.
 
-The lines of the model's streams are made of its items, which it has by their numbers; those of sets that are cut are read bit by bit, by
-read_sets.py; and headers stand here field by field.
+The lines of the model's streams are made from its items, which it gives by their numbers. Lines of sets that are cut are made by
+read_sets.py, which reads them bit by bit. The fields of headers are written out here.
 """
 import json
 import re
@@ -15,12 +15,12 @@ from told_cases import BYTEWISE, GRAY_LINES, not_understood, pps_line, say, say_
 from worked_cases import A, M, failed, refused
 
 NAMES = {number: name for name, number in NUMBERS.items()}
-# The structure that a unit of a type is.
+# The structure of each type of unit.
 STRUCTURES = {14: "VPS", 15: "SPS", 16: "PPS", 17: "APS", 18: "APS", 19: "PH", **dict.fromkeys((0, 1, 2, 3, 7, 8, 9, 10), "SH")}
 
 
 def fields_line(number, structure, items, **besides):
-    """The line of a structure: its items by their numbers, and the length of its body or the field that is refused."""
+    """Returns the line of a structure: its items by their numbers, and the length of its body or the field that is refused."""
     line = {"bit": 0, "fields": [[NAMES[field], value] for field, value in items], "structure": structure, "unit": number, **besides}
     return json.dumps(line, separators=(",", ":"), sort_keys=True)
 
@@ -30,7 +30,7 @@ def kind_of(nal_unit):
 
 
 def rbsp_of(nal_unit):
-    """The bytes behind the header, without emulation prevention."""
+    """Returns the bytes after the header, without emulation prevention."""
     return re.sub(rb"(?<=\0\0)\x03", b"", nal_unit[2:])
 
 
@@ -42,7 +42,7 @@ def model_items(words):
 
 
 def model_line(number, line):
-    """The line of a unit's fields, by what the model reads of it; none of a unit that is dropped."""
+    """Returns the line of a unit's fields, from what the model reads of it; None for a unit that is dropped."""
     nal_unit, _, read = line.partition(" ")
     nal_unit = bytes.fromhex(nal_unit)
     structure = STRUCTURES.get(kind_of(nal_unit))
@@ -58,7 +58,7 @@ def model_line(number, line):
 
 
 def with_fields(lines, found):
-    """What is shown of a stream, with the lines of fields behind those of each unit."""
+    """Returns what is shown of a stream, with the line of fields after the lines of each unit."""
     shown, number = [], -1
     for line in [*lines, None]:
         if (line is None or line.startswith('{"bytes"')) and number >= 0 and found[number]:
@@ -70,7 +70,7 @@ def with_fields(lines, found):
 
 
 def add_model_fields(cases, streams, shown):
-    """The model's streams, by the lines of their units and what is shown of them."""
+    """Adds the model's streams, given the lines of their units and what is shown of them."""
     for number, lines in streams.items():
         cases.about(f"stream {number} of an independent model: shown with its fields")
         found = [model_line(k, line) for k, line in enumerate(lines)]
@@ -82,7 +82,7 @@ def add_model_fields(cases, streams, shown):
 
 
 def reading(kind, rbsp):
-    """The items of a set up to where its bits end, and the field and the bit there; None where they don't end within a field."""
+    """Returns the items of a set up to where its bits end, and the field and the bit there; None if they don't end within a field."""
 
     class Cut(kind):
         begun = None
@@ -116,7 +116,7 @@ def reading(kind, rbsp):
 
 
 def cut_sets():
-    """Units of sets that are cut behind each of their bytes, with the units before them and what is told of these."""
+    """Returns units of sets that are cut after each of their bytes, with the units before them and the lines of these."""
     sps_unit, pps_unit = units(M)[:2]
     first = [sps_line(128, 64, 2), fields_line(0, "SPS", Sps(rbsp_of(sps_unit)).items)]
     yield Sps, "SPS", sps_unit, [], b""
@@ -145,13 +145,13 @@ GRAY_SPS, GRAY_PPS, GRAY_SLICE = units(A)
 
 
 def gray_sets():
-    """What is told of the sets of a picture."""
+    """Returns the lines of the sets of a picture."""
     return told((4, 20, 15), sps_line(), fields_line(0, "SPS", Sps(rbsp_of(GRAY_SPS)).items),
                 (28, 10, 16), pps_line(), fields_line(1, "PPS", Pps(rbsp_of(GRAY_PPS)).items))
 
 
 def add_headers(cases):
-    """Headers that are cut, whose sets haven't come, and which come where none may."""
+    """Adds headers that are cut, headers whose sets haven't come, and headers where none may come."""
     sets = gray_sets()
     cases.about("show --fields: a slice with its picture header inside, which is cut within it")
     cut = stream(GRAY_SPS, GRAY_PPS, GRAY_SLICE[:3])
@@ -177,7 +177,7 @@ def add_headers(cases):
 
 
 def before(kind, rbsp, name):
-    """The items of a set before the first of a field."""
+    """Returns the items of a set before the first item of a field."""
     read = kind.__new__(kind)
     try:
         kind.__init__(read, rbsp)
@@ -188,7 +188,7 @@ def before(kind, rbsp, name):
 
 
 def add_sets(cases):
-    """Adaptation parameter sets, sets with a number that is out of its range, and the longest ones."""
+    """Adds adaptation parameter sets, sets with a number that is out of its range, and the longest sets."""
     cases.about("show --fields: adaptation parameter sets: two types, one that is dropped, one without a body, and one that doesn't end")
     for rbsp, kind, number, besides, shown, line in (
             ("03a180", 0, 3, {"body": 2}, ['{"aps":3,"kind":0}'], ""),
@@ -217,7 +217,7 @@ def add_sets(cases):
 
 
 def set_line(read):
-    """The line of a set that was read."""
+    """Returns the line of a set that was read."""
     latest = {NAMES[field]: value for field, value in read.items}
     if isinstance(read, Sps):
         line = {"ctu": read.ctu, "height": read.height, "sps": latest["sps_seq_parameter_set_id"], "subpictures": len(read.rects),
@@ -231,7 +231,7 @@ def set_line(read):
 
 
 def add_family_sets(cases, families):
-    """The sets of real streams."""
+    """Adds the sets of real streams."""
     cases.about("show --fields: sets of real streams")
     for family in families:
         first = units(family.sources[0])
@@ -244,7 +244,7 @@ def add_family_sets(cases, families):
         cases.case(f"show --fields {cases.name(stream(*sets))}", Expected(out=told(*shown)))
 
 
-# Words, reads and writes.
+# Arguments, reads and writes.
 
 
 def add_words(cases):
@@ -257,7 +257,7 @@ def add_words(cases):
 
 
 def gray_fields():
-    """What is told of a picture with its fields."""
+    """Returns the lines of a picture with its fields."""
     return gray_sets() + told((42, 7, 8), '{"clvss":true,"picture":0,"poc":0,"slices":1,"subpictures":1}',
                               fields_line(2, "SH", GRAY_ITEMS))
 
@@ -267,7 +267,7 @@ GRAY_ITEMS = [*INSIDE, (606, 0), (705, 0), (713, 0)]
 
 
 def add_faults(cases):
-    """Reads and writes that fail."""
+    """Adds reads and writes that fail."""
     whole, cut = gray_fields(), stream(GRAY_SPS, GRAY_PPS, GRAY_SLICE[:3])
     words = f"show --fields {cases.name(A)}"
     cases.about("show --fields: a write that fails, of the lines of units and of one that is refused")

@@ -1,12 +1,12 @@
 #!/usr/bin/env python3
-"""Looks among the lines of vx_vectors and vx_cases for the rows of the tests that stood in nine crates, and lists what it doesn't find.
+"""Looks for the rows of tests of an earlier commit among the lines of vx_vectors and vx_cases, and lists those that it doesn't find.
 
 usage: scripts/find-old-rows.py COMMIT
 
-COMMIT still has the tests. A row is a literal of theirs: bytes (a byte string, an array, hexadecimal digits), or a line of a text of items,
-tiles, places in bits or printed lines. Bytes are found where they are a word of a line, the payload of a unit, or part of a stream behind a
-start code; a text, where each of its parts stands in a line. Where a refusal stands behind bytes, before the next ones, the answer to a
-line that has them has to name it. What a line asks isn't looked at, nor what a test puts together by calls or loops.
+COMMIT still has the tests, which were in nine crates. A row is a literal of them: bytes (a byte string, an array, hexadecimal digits), or a
+line of a text of items, tiles, places in bits or printed lines. Bytes are found if they are a word of a line, the payload of a unit, or
+part of a stream after a start code. A text is found if each of its parts is in a line. If a refusal follows bytes in the test, the output
+of the line that has them has to name it. The script doesn't look at what a line does, nor at what a test composes by calls or loops.
 """
 import pathlib
 import re
@@ -34,7 +34,9 @@ def lines_of(crate, name):
 
 
 def answered():
-    """The last word of each line of vx_vectors, and each stream that vx_cases shows, with the answer; without the pictures of streams."""
+    """Returns the last word of each line of vx_vectors, and each stream that vx_cases shows, with the output; without the pictures of
+    streams.
+    """
     asked = [line.split(" ")[-1] for line in lines_of("vx_vectors", "stdin") if line != "pictures"]
     answers = [line for line in lines_of("vx_vectors", "stdout") if line and not line.startswith(("picture ", "slice subpicture="))]
     lines = [line.split(" ") for line in lines_of("vx_cases", "stdin")]
@@ -50,7 +52,7 @@ WORDS = set(re.split("[ =\n]", ALL))
 
 
 def value(literal):
-    """The bytes or the lines of a literal; none where it is no row."""
+    """Returns the bytes or the lines of a literal; None if it is no row."""
     if literal.startswith("["):
         numbers = [int(number.replace("_", ""), 0) for number in re.findall(NUMBER, literal)]
         return bytes(numbers) if re.search("0[xb]", literal) or len(numbers) > 3 and not any(numbers) else None
@@ -61,7 +63,8 @@ def value(literal):
 
 
 def are_found(row, refusal, front):
-    """Whether bytes stand in a line, with the refusal behind them in its answer where there is one; a word has as many bytes 0 in front."""
+    """Returns whether bytes are in a line, whose output has the refusal if one is given. `front` zero bytes come before them in a word.
+    """
     digits, payload = row.hex() or "-", re.sub(rb"\0\0(?=[\0-\3])", b"\0\0\3", row).hex()
     start = "" if digits.startswith("000001") else "000001"
     word = re.compile(rf"{'00' * front}{digits}|[0-9a-f]{{4}}{payload}|[0-9a-f]*{start}{digits}.*")
@@ -73,7 +76,7 @@ def are_found(row, refusal, front):
 
 
 def is_found(line, front):
-    """Whether each part of a line of a text stands in a line; bits stand in hexadecimal."""
+    """Returns whether each part of a line of a text is in a line; bits are searched in hexadecimal."""
     def told(is_):
         return f"= refused L code={is_[4]}" if is_[4] else f"= refused Y field={is_[1]} bit={int(is_[2]) + 8 * front} cause={is_[3]}"
     line = re.sub(r"^(\d+) (?=.*(?:Ok|Err)\()", r"at=\1 = ", TOLD.sub(told, line)).replace("Ok(())", "")
@@ -83,7 +86,7 @@ def is_found(line, front):
 
 
 def rows_of(text, front):
-    """The rows of a file of tests, each with whether it is found; there, the words of lines have as many bytes 0 in front."""
+    """Returns the rows of a file of tests, each with whether it is found. `front` zero bytes come before them in the words of lines."""
     text = re.sub(r"^\s*//.*$", "", text, flags=re.M)
     rows = [(at, value(at.group())) for at in LITERAL.finditer(text) if value(at.group()) is not None]
     for (at, row), end in zip(rows, [*(at.start() for at, _ in rows[1:]), len(text)]):
@@ -94,7 +97,7 @@ def rows_of(text, front):
 
 
 for path in git("ls-tree", "-r", "--name-only", sys.argv[1]).splitlines():
-    if re.fullmatch(TESTS, path):  # slice headers stand behind an id of eight bits
+    if re.fullmatch(TESTS, path):  # slice headers come after an id of eight bits
         found = list(rows_of(git("show", f"{sys.argv[1]}:{path}"), int(path == "crates/vx_sh/src/tests.rt")))
         print(f"{path}: {len(found)} rows, {sum(is_there for _, is_there in found)} found")
         print("".join(f"  not found: {row[:100]}\n" for row, is_there in found if not is_there), end="")

@@ -1,7 +1,7 @@
-"""Regions that are put together, with the answers that the definitions of vx_fit give: `fit` and `lines` of crates/vx_calls.
+"""Lines `fit` and `lines` of crates/vx_calls: regions that make up a frame or don't, with the results that the definitions of vx_fit give.
 
-A program of the definitions by sets: a region is the set of its positions or of its CTUs, a line is a number, and each
-rule is asked of each element. It shares nothing with the crate. Hand-made rows come first, then random small ones.
+It applies the definitions to sets: a region is the set of its positions or of its CTUs, a line is a number, and each rule is checked for
+each element. It shares nothing with the crate. Hand-made rows come first, then random small ones.
 """
 import random
 from math import gcd
@@ -12,13 +12,13 @@ GREATEST = 16384
 # ---- whether regions fit together; a region is (x, y, w, h) in luma samples
 
 def positions(region, unit):
-    """The positions of a region, `unit` by `unit` samples for one."""
+    """Returns the positions of a region, in units of `unit` by `unit` samples."""
     x, y, w, h = (n // unit for n in region)
     return {(i, j) for i in range(x, x + w) for j in range(y, y + h)}
 
 
 def ctus(region, ctb):
-    """The CTUs in which a region has a sample."""
+    """Returns the CTUs in which a region has a sample."""
     unit = gcd(ctb, *region)
     return {(i * unit // ctb, j * unit // ctb) for i, j in positions(region, unit)}
 
@@ -93,7 +93,7 @@ def lines(regions):
 # ---- random frames
 
 def cut(rng, rect, depth):
-    """A rectangle cut straight through again and again, or once like a wheel."""
+    """Returns the parts of a rectangle that is cut straight through again and again, or once like a wheel."""
     x, y, w, h = rect
     if w >= 3 and h >= 3 and rng.random() < 0.25:
         a, b = rng.randint(1, w - 2), rng.randint(1, h - 2)
@@ -108,7 +108,7 @@ def cut(rng, rect, depth):
 
 
 def in_some_order(rng, rects):
-    """The rectangles in an order in which no neighbour to the left or above comes later."""
+    """Returns the rectangles in an order in which no neighbour to the left or above comes later."""
     left, done = list(rects), []
     cells = {rect: positions(rect, 1) for rect in rects}
     while left:
@@ -121,7 +121,7 @@ def in_some_order(rng, rects):
 
 
 def spread(rng, rect, ctb, w, h):
-    """A rectangle of CTUs in samples, the last CTUs of the frame cut off."""
+    """Returns a rectangle of CTUs in samples, with the last CTUs of the frame cut off."""
     x, y, a, b = (n * ctb for n in rect)
     return (x, y, a - (w if rect[0] + rect[2] == 3 else 0), b - (h if rect[1] + rect[3] == 3 else 0))
 
@@ -142,7 +142,7 @@ def some_placement(rng):
 
 
 def parted(rng, size):
-    """The sizes of tile columns or rows."""
+    """Returns the sizes of tile columns or rows."""
     if size > 1 and rng.random() < 0.2:
         a = rng.randint(1, size - 1)
         return [a, size - a]
@@ -213,7 +213,7 @@ def numbers(ns):
 
 
 def explicit(sizes):
-    """Sizes as they are written: the last one stands for all like it at the end."""
+    """Returns sizes as they are coded: the last one stands for all equal ones at the end."""
     count = len(sizes)
     while count > 1 and sizes[count - 1] == sizes[count - 2]:
         count -= 1
@@ -221,7 +221,7 @@ def explicit(sizes):
 
 
 def asked_and_answered():
-    """The lines of all placements and then those of all frames, each with its answer."""
+    """Returns the lines of all placements and then those of all frames, each with its expected output."""
     rng = random.Random(17)
     placements = PLACEMENTS + [some_placement(rng) for _ in range(80)]
     frames = LINES + [some_lines(rng) for _ in range(80)]

@@ -30,7 +30,7 @@ ROOT = pathlib.Path(__file__).resolve().parent.parent
 TICKS = os.sysconf("SC_CLK_TCK")
 # Seconds between two looks, and between two writes of the recording.
 LOOK, WRITE = 0.25, 30
-# What a check, a build or a run of a program is counted as; a column of the table sums these.
+# The kinds of checks, builds and runs of programs; a column of the table adds up these.
 COLUMNS = {"proof": ["proof"], "tests": ["tests", "runs"], "edits": ["seed", "edits", "confirm"], "builds": ["builds"]}
 GATE = ["crate", *COLUMNS, "memory", "commit", "kit", "processors", "date", "load"]
 RUN = ["what", "value", "unit", "commit", "kit", "machine", "date", "load"]
@@ -43,7 +43,8 @@ def read(path):
 
 def stat_of(number):
     """Returns the parent of a process, when it started (in ticks since the system's start), and its processor seconds with those of ended children."""
-    # After the name in brackets come, from the third field on: state, parent, .., the four times as fields 14 to 17, the start as field 22.
+    # After the name in brackets come, from the third field on: state, parent, .., the four times as fields 14 to 17, the start as field
+    # 22.
     fields = read(f"/proc/{number}/stat").rpartition(")")[2].split()
     return int(fields[1]), int(fields[19]), sum(map(int, fields[11:15])) / TICKS
 
@@ -64,7 +65,7 @@ def runs_under_way():
     for number in numbers():
         try:
             words = read(f"/proc/{number}/cmdline").split("\0")
-            # A program that only starts rt, as timeout does, has the same words after its own.
+            # A program that only starts rt, as timeout does, has the same arguments after its own.
             if re.match(r"rt$|python", os.path.basename(words[0])) and "ci" in words and os.path.basename(words[words.index("ci") - 1]) == "rt":
                 found[number] = os.readlink(f"/proc/{number}/cwd")
         except OSError:
@@ -216,7 +217,7 @@ def write(told, commit):
     old, new = rows_of(folder / "gate.tsv", GATE), {}
     for crate in every:
         kinds = told["crates"].get(crate, {})
-        # A crate whose proof was kept has at most builds and runs.
+        # A crate whose proof was kept has only builds and runs, if anything.
         if kinds.get("proof"):
             new[crate] = {"crate": crate, **columns(kinds), "memory": kinds["memory"], **common}
         elif crate in old:

@@ -1,5 +1,5 @@
-"""Cases of hostile use, under each command: what stands at the end of a range or one beyond, two pictures of which the first bytes come
-alone, and files and sinks that fail. What the other cases have of these isn't said again.
+"""Cases of hostile input, under each command: numbers at the end of a range and one beyond, the first bytes of two pictures, and files and
+sinks that fail. Only what the other cases don't have.
 """
 import structure_cases as spelled
 from case_lines import Expected, units
@@ -11,12 +11,12 @@ from told_cases import (BROKEN, BROKEN_LINES, BYTEWISE, GRAY_PPS, GRAY_SETS, GRA
                         not_understood, picture_line, pps_line, sps_line, told)
 from worked_cases import A, BESIDE, EMPTY, EOS_UNIT, I0, M, failed, gray, left, pair_pps, pair_sets, refused, right, wall
 
-# The longest code of ue(v) has this number.
+# The number of the longest code of ue(v).
 MOST = 2**32 - 2
 
 
 def checked(pictures=1):
-    """What a check tells of pictures that break no rule."""
+    """Returns what a check prints of pictures that break no rule."""
     return Expected(out=b"ok pictures %d\n" % pictures)
 
 
@@ -25,7 +25,7 @@ def verified(pictures=1):
 
 
 def lines_of(source, *own):
-    """What is shown of the first units of a stream, of which each has a line of its own behind that of the unit, or none."""
+    """Returns what is shown of the first units of a stream. Each may have a line of its own after that of the unit."""
     parts, offset = [], 4
     for nal_unit, line in zip(units(source), own):
         parts.append((offset, len(nal_unit), nal_unit[1] >> 3))
@@ -39,31 +39,33 @@ SETS, ONE = (sps_line(), pps_line()), (sps_line(), pps_line(), picture_line())
 
 
 def beside(cases, source):
-    """The words that place a picture, and a source on its right."""
+    """Returns the arguments that place a picture, and a source on its right."""
     return cases.placed(BESIDE, (A, source))
 
 
 def behind(cases, source):
-    """The words that place two pictures side by side, and behind each of them another file: a picture, and a source on its right."""
+    """Returns the arguments that place two pictures side by side, and after each of them another file: a picture, and a source on its
+    right.
+    """
     return cases.placed(PAIRS, (A, A, A, source))
 
 
 def placed_everywhere(cases, words, expected, *settings):
-    """Files at corners of their own: a merge, its check, and what is played of them, which is the same."""
+    """Adds files at corners of their own: a merge, its check, and `play`, which writes the same."""
     cases.checked(f"merge {words}", expected, *settings)
     cases.case(f"play {words}", expected, *settings)
 
 
 def merged_everywhere(cases, corners, sources, *written):
-    """Sources that are merged to these units, also by `play`."""
+    """Adds sources that are merged to these units, also by `play`."""
     expected = Expected(out=stream(*written))
     cases.merged(corners, sources, expected)
     cases.case(f"play {cases.placed(corners, sources)}", expected)
 
 
 def refused_everywhere(cases, source, line, lines=None):
-    """A source that is refused under each command, as source 1 of a merge, as file 2 of a comparison, and as file 3 that is played, of
-    region 1; and, where they are given, the lines that are shown before.
+    """Adds a source that is refused under each command: as source 1 of a merge, as file 2 of a comparison, and as file 3 that is
+    played, of region 1. `lines` are the lines that are shown before, if given.
     """
     name, words = cases.name(source), beside(cases, source)
     if lines is not None:
@@ -77,8 +79,8 @@ def refused_everywhere(cases, source, line, lines=None):
 
 
 def taken_everywhere(cases, source, lines=None):
-    """A source of a picture that is its own extraction, can be merged alone, and played twice; and, where they are given, the lines that
-    are shown.
+    """Adds a source of one picture that is its own extraction, can be merged alone, and is played twice. `lines` are the lines that are
+    shown, if given.
     """
     name = cases.name(source)
     if lines is not None:
@@ -96,7 +98,7 @@ def taken_everywhere(cases, source, lines=None):
 
 
 def add_ends(cases):
-    """The streams that `show` refuses at an end, under the other commands."""
+    """Adds the streams that `show` refuses at an end, under the other commands."""
     for what, rows in end_rows():
         cases.about(f"hostile: {what}")
         for source, _, line in rows:
@@ -117,7 +119,7 @@ def add_ends(cases):
 
 
 def size_rows():
-    """Heights, and sizes of CTUs and sublayers, past their ends, and the largest picture."""
+    """Returns heights, and sizes of CTUs and sublayers, past their ends."""
     for numbers, line in (({"sps_pic_height_max_in_luma_samples": 16_392}, "L6 source 0 unit 0"),
                           ({"sps_pic_height_max_in_luma_samples": 0}, "Y source 0 unit 0 field 110 bit 63 OutOfRange"),
                           ({"sps_max_sublayers_minus1": 7}, "Y source 0 unit 0 field 102 bit 8 OutOfRange"),
@@ -126,7 +128,7 @@ def size_rows():
 
 
 def add_sizes(cases):
-    """The largest picture, and larger ones."""
+    """Adds the largest picture, and larger ones."""
     cases.about("hostile: no height, and one that is too large; seven sublayers and one more; CTUs of 256 samples")
     for source, line in size_rows():
         refused_everywhere(cases, source, line, EMPTY)
@@ -148,7 +150,7 @@ def add_sizes(cases):
 
 
 def add_corners(cases):
-    """Corners as far away as words can say."""
+    """Adds corners as far away as arguments can say."""
     cases.about("hostile: 64 regions with the same corner, which is the last one; corners at which a picture just fits in, and one further")
     words = cases.placed(["16383,16383"] * 64, [A] * 64)
     placed_everywhere(cases, words, refused("L6 picture 0"))
@@ -163,7 +165,8 @@ def add_corners(cases):
 
 
 def subpictures(width, height, **numbers):
-    """Sets of a picture of two subpictures, of three CTUs in a row or a column, of which the last one has a slice of its own."""
+    """Returns sets of a picture of two subpictures, of three CTUs in a row or a column, of which the last one has a slice of its own.
+    """
     across = width > height
     rbsp = spelled.sps(width, height, sps_subpic_info_present_flag=1, sps_num_subpics_minus1=1, sps_independent_subpics_flag=1,
                        **{f"sps_subpic_{name}": number for name, number in numbers.items()})
@@ -172,7 +175,7 @@ def subpictures(width, height, **numbers):
 
 
 def add_places(cases):
-    """Where subpictures stand: the last column and row of CTUs, and one beyond; sizes that lead out of the picture."""
+    """Adds places of subpictures: the last column and row of CTUs, and one beyond; sizes that reach out of the picture."""
     cases.about("hostile: subpictures at the last column and row, and one beyond; of sizes that lead to the border, and over it")
     for width, height, corner, size in ((192, 64, "ctu_top_left_x", "width_minus1"), (64, 192, "ctu_top_left_y", "height_minus1")):
         columns = 2 if width > height else 1
@@ -188,22 +191,22 @@ def add_places(cases):
                 refused_everywhere(cases, source, "S12 source 0 unit 2 layout 3", lines_of(source, *own))
 
 
-# Numbers that are counted from several fields.
+# Numbers that are computed from several fields.
 
 
 def frame_sps(**numbers):
-    """The SPS of two pictures of 64 by 64 samples side by side, with these numbers."""
+    """Returns the SPS of two pictures of 64 by 64 samples side by side, with these numbers."""
     return unit(SPS, 0, spelled.sps(128, 64, sps_subpic_info_present_flag=1, sps_num_subpics_minus1=1, sps_independent_subpics_flag=1,
                                     sps_subpic_ctu_top_left_x=1, **numbers))
 
 
 def deep(bits_more, qp, delta):
-    """A picture of more bits a sample, in one slice."""
+    """Returns a picture with a higher bit depth, in one slice."""
     return stream(unit(SPS, 0, spelled.sps(sps_bitdepth_minus8=bits_more)), pps(64, 64, qp=qp), slice_unit(I0, inside=True, qp_delta=delta))
 
 
 def header_qp(delta):
-    """A picture whose PPS has the largest QP, and whose picture header moves it."""
+    """Returns a picture whose PPS has the largest QP, and whose picture header changes it."""
     w = Writer(None)
     for bits, number in ((4, 0b1000), (1, 1), (4, 0)):
         w.u(bits, number)
@@ -213,7 +216,7 @@ def header_qp(delta):
 
 
 def add_qps(cases):
-    """The quantization parameter of a slice."""
+    """Adds the quantization parameter of a slice."""
     cases.about("hostile: the QP of a slice at its ends, and one beyond, at 8, 9 and 10 bits, and as far as codes lead")
     for bits_more in (0, 1, 2):
         least = -6 * bits_more
@@ -238,7 +241,9 @@ def add_qps(cases):
 
 
 def cycled(lsb_bits, cycle_bits, lsb, cycle):
-    """A picture, with its header in its slice, of these low bits and this cycle: its SPS's numbers, its header's bits, and the stream."""
+    """Returns a picture with these low bits and this cycle of the picture order count, and its header in its slice: its SPS's numbers,
+    its header's bits, and the stream.
+    """
     numbers = {"sps_log2_max_pic_order_cnt_lsb_minus4": lsb_bits - 4, "sps_poc_msb_cycle_flag": 1,
                "sps_poc_msb_cycle_len_minus1": cycle_bits - 1}
     header = (4, 0b1000), (1, 1), (lsb_bits, lsb), (1, 1), (cycle_bits, cycle)
@@ -250,7 +255,7 @@ def cycled(lsb_bits, cycle_bits, lsb, cycle):
 
 
 def add_counts(cases):
-    """The picture order count."""
+    """Adds the picture order count."""
     cases.about("hostile: the largest count, of the most low bits and of the fewest, and one more; the most cycles that bits can say")
     for bits in (4, 16):
         cycles = 2**(31 - bits)
@@ -266,7 +271,7 @@ def add_counts(cases):
 
 
 def add_sums(cases):
-    """Numbers without a range, as large as codes can say."""
+    """Adds numbers without a range, as large as codes can be."""
     cases.about("hostile: offsets of the window and DPB sizes as large as codes can say")
     window = MOST, MOST, MOST, MOST
     taken_everywhere(cases, gray(window=window))
@@ -285,7 +290,7 @@ def add_sums(cases):
 
 
 def add_slots(cases):
-    """More PPSs than there are ids, of 10 bits, so that each has a QP of its own."""
+    """Adds more PPSs than there are ids, at 10 bits, so that each has a QP of its own."""
     cases.about("hostile: 66 PPSs in turn: the last two take the id 0, one after the other; then the second one, which is still there, "
                 "and the first one again")
     deeper = {"sps_bitdepth_minus8": 2}
@@ -300,7 +305,7 @@ def add_slots(cases):
 
 
 def add_numbers(cases):
-    """Numbers of words."""
+    """Adds numbers in arguments."""
     cases.about("hostile: the largest and the least numbers of words, and one more; numbers past 2^16, 2^32 and 2^64")
     name = cases.name(A)
     for level in (0, 255):
@@ -321,8 +326,8 @@ def add_numbers(cases):
 
 
 def second_cut(line, picture=0, file=1):
-    """What file 1 of a merge is refused for, or another file of region 1, which begins with this picture, where alone it is refused for
-    this, if anything.
+    """Returns the line of a merge whose file 1 is cut, or another file of region 1 that begins with this picture. `line` is the line of
+    the file alone, if it is refused.
     """
     if not line:
         return f"M1 picture {picture} source 1"
@@ -330,14 +335,14 @@ def second_cut(line, picture=0, file=1):
 
 
 def finished_cut(line, count):
-    """What comes of its comparison with two pictures."""
+    """Returns the result of comparing the cut stream with two pictures."""
     if not line:
         return verified() if count == len(M) else refused("C4 picture 0 source 2 slice 0 part 12 field 0")
     return refused("C5 picture 0 source 0" if line[0] == "E" else line)
 
 
 def add_cut(cases):
-    """Two pictures side by side, of which the first bytes come alone."""
+    """Adds the first bytes of two pictures side by side, for each number of bytes."""
     cases.about("hostile: a picture that is cut anywhere: checked, as source 1 of a merge, as a finished stream, and as the second file of "
                 "region 1")
     for count in range(len(M) + 1):
@@ -354,7 +359,7 @@ def add_cut(cases):
 
 
 def add_failing(cases):
-    """A merge of two files of two pictures each, the first one in one piece and the second one in pieces of 60 bytes."""
+    """Adds a merge of two files of two pictures each: the first one is read in one piece and the second one in pieces of 60 bytes."""
     cases.about("hostile: a merge of a file in one piece and one in pieces of 60 bytes: each read, and some writes, of a byte, failing")
     placed, whole, pieces = cases.placed(BESIDE, (TWICE, TWICE)), M + M, "pieces 1 60"
     words = f"merge {placed}"
@@ -388,7 +393,7 @@ def add_failing(cases):
 
 
 def add_silent(cases):
-    """The first write to `err` fails: nothing else changes."""
+    """Adds cases in which the first write to `err` fails: nothing else changes."""
     cases.about("hostile: the first write to `err` fails: a rule, words, a read and a write")
     name, words = cases.name(A), cases.placed(BESIDE, (A, A))
     broken = A + BROKEN

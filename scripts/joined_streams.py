@@ -1,14 +1,14 @@
-"""Streams of an independent model joined to one, with what `show` is to write of it.
+"""Joins streams of an independent model to one, with what `show` has to write of it.
 
-Between two streams stands an end of sequence, so that the second is as it is by itself, but for the places of its units and the
-numbers of its pictures; a stream whose first picture isn't one from which others are counted is left out, since the next one would be
-counted from the stream before.
+An end of sequence comes between two streams, so that the second is read as it is by itself, except for the places of its units and the
+numbers of its pictures. A stream is left out if its first picture isn't one from which others are counted, because the next stream's
+pictures would be counted from the stream before.
 """
 import json
 
 
 def counts_others(units):
-    """Whether the first picture has TemporalId 0 and ph_non_ref_pic_flag 0."""
+    """Returns whether the first picture has TemporalId 0 and ph_non_ref_pic_flag 0."""
     first = next(unit for unit in units if "header " in unit)
     return int(first[2:4], 16) % 8 == 1 and " 601=1" not in first
 
@@ -21,8 +21,9 @@ END = b"\0\xa9"
 
 
 def joined(streams, shown):
-    """The streams as one, and its lines. Of each number `streams` has the lines of its units, which begin with their bytes in
-    hexadecimal, and `shown` those that are shown of it."""
+    """Returns the streams as one, and its lines. `streams` has the lines of the units of each stream, by its number, which begin with
+    their bytes in hexadecimal; `shown` has the lines that are shown of each.
+    """
     stream, lines, pictures = b"", [], 0
     for number, units in streams.items():
         if not counts_others(units):

@@ -1,13 +1,12 @@
-"""Lines of reference picture lists, of their structures, and of prediction weights, with their answers, for crates/vx_vectors.
+"""Lines of crates/vx_vectors on reference picture lists, their structures, and prediction weights, with their expected output.
 
-HEADERS, TABLES and WEIGHTS are of an independent model of the format, but for one line of HEADERS and one of WEIGHTS. These and the other
-lines were worked by hand, and the longest ones are put together here, bit by bit in the order of the syntax tables of clauses 7.3.9 and
-7.3.10.
+HEADERS, TABLES and WEIGHTS are of an independent model of the format, except one line of HEADERS and one of WEIGHTS. These and the other
+lines were worked by hand. The longest ones are composed here, bit by bit in the order of the syntax tables of clauses 7.3.9 and 7.3.10.
 """
 from bit_text import Bits, hexadecimal, refused_syntax
 
 # Lists of headers. A line `sps` has sps_long_term_ref_pics_flag, whether there are weights, the bits of ph_pic_order_cnt_lsb,
-# pps_rpl1_idx_present_flag, and the items of the SPS's structures. The lines behind it have the bits of lists as headers have them, the
+# pps_rpl1_idx_present_flag, and the items of the SPS's structures. The lines after it have the bits of lists as headers have them, the
 # items, and the entries of list 0 and of list 1: AbsDeltaPocSt with the sign, or the low bits and the cycle of the high ones.
 HEADERS = """\
 sps 0 0 8 1 : 179=0 179=0
@@ -85,8 +84,8 @@ sps 0 1 8 1 : 179=1 301=2 304=32767 305=1 304=0
 11 307=1 307=1 = s-32768,s+0|s-32768,s+0
 """
 
-# Structures of SPSs: whether there are weights, the items, and the structures of list 0 and of list 1, each with `h` where the low bits of
-# its long-term entries are in headers.
+# Structures of SPSs: whether there are weights, the items, and the structures of list 0 and of list 1. A structure has `h` if the low
+# bits of its long-term entries are in headers.
 TABLES = """\
 1 179=3 301=2 304=32767 305=1 304=0 301=2 304=1 305=0 304=0 301=0 179=2 301=0 301=1 304=32767 305=1 = os-32768,s+0;os+2,s+0;o|o;os-32768
 1 179=2 301=2 302=1 303=1 304=1 305=0 303=0 301=0 = hs+2,lNone;o|hs+2,lNone;o
@@ -114,8 +113,8 @@ TABLES = """\
 1 179=0 179=3 301=0 301=1 304=0 305=1 301=0 = -|o;os-1;o
 """
 
-# Weights of headers: whether there is chroma, pps_wp_info_in_ph_flag, pps_weighted_bipred_flag, the entries of both lists and how many are
-# active, the bits, and the items.
+# Weights of headers: whether there is chroma, pps_wp_info_in_ph_flag, pps_weighted_bipred_flag, the entries of both lists and how many
+# are active, the bits, and the items.
 WEIGHTS = """\
 0 0 0 1 0 1 0 = 1111 321=0 324=1 326=0 327=0
 1 0 1 3 1 2 0 = 0100001000111111000000001101010010001010000100100010000001010000100100011000010000010110001101 321=1 322=4 324=1 324=1 325=1 325=1 326=0 327=0 328=-212 329=5 328=-4 329=4 326=5 327=-4 328=6 329=2 328=-5 329=-6
@@ -134,18 +133,18 @@ PLAIN = "0,0,8,1"
 
 
 def entry_count(entries):
-    """How many entries a list's text has."""
+    """Returns how many entries the text of a list has."""
     return 0 if entries == "-" else entries.count(",") + 1
 
 
 def told_lists(bits, items, lists):
-    """The answer to lists of these bits, which have these items, and the entries of both lists."""
+    """Returns the expected output for the bits of lists, with these items and the entries of both lists."""
     counts = ",".join(str(entry_count(entries)) for entries in lists.split("|"))
     return f"at={len(bits)} {items} | {lists} | entries={counts} | written same"
 
 
 def header_lines():
-    """The lists of headers of the model."""
+    """Returns the lines on the model's lists of headers."""
     for row in HEADERS.splitlines():
         if row.startswith("sps "):
             numbers, structures = row[4:].split(" : ")
@@ -157,7 +156,7 @@ def header_lines():
 
 
 def table_lines():
-    """The structures of SPSs of the model."""
+    """Returns the lines on the model's structures of SPSs."""
     for row in TABLES.splitlines():
         told, structures = row.split(" = ")
         weighted, items = told.split(" ", 1)
@@ -165,7 +164,7 @@ def table_lines():
 
 
 def weight_lines():
-    """The weights of the model."""
+    """Returns the lines on the model's weights."""
     for row in WEIGHTS.splitlines():
         numbers, told = row.split(" = ")
         bits, items = told.split(" ", 1)
@@ -173,7 +172,9 @@ def weight_lines():
 
 
 def taken_over():
-    """List 0 has structure 2 of 3, with five long-term entries, and list 1 takes its index over, which may lead past its structures."""
+    """Returns lines on a list 0 with structure 2 of 3, with five long-term entries, and a list 1 that takes its index over, which may
+    be past its structures.
+    """
     first = "179=3;301=0*2;301=5,302=0;303=0,306=1;303=0,306=2;303=0,306=3;303=0,306=4;303=0,306=5"
     told = "at=8 307=1 308=2 310=0 310=0 310=0 310=0 310=0 | "
     whole = "l1,l2,l3,l4,l5|- | entries=5,0 | written c080"
@@ -183,14 +184,16 @@ def taken_over():
 
 
 def past_the_list():
-    """The last structure of three, and one that there isn't."""
+    """Returns lines on the last structure of three, and on one that doesn't exist."""
     structures = "179=3;301=0*3;179=3;301=0*3"
     yield f"lists 0,0,8,0 {structures} {hexadecimal('110')}", told_lists("110", "307=1 308=2", "-|-")
     yield f"lists 0,0,8,0 {structures} {hexadecimal('111')}", "at=1 307=1 | " + refused_syntax(308, 1, "OutOfRange")
 
 
 def weight_ends():
-    """The largest denominator and the most weights, and one more: of lists of one entry, and of lists of 16 entries."""
+    """Returns lines on the largest denominator and the most weights, and on one more: of lists of one entry, and of lists of 16
+    entries.
+    """
     for denominator in (7, 8):
         bits = Bits()
         bits.ue(denominator)
@@ -202,7 +205,7 @@ def weight_ends():
 
 
 def weight_bits(first, second):
-    """So many weights for each list, all of which are absent."""
+    """Returns the bits of `first` and `second` weights for the lists, all of which are absent."""
     bits = Bits()
     bits.ue(0)
     for count in (first, second):
@@ -212,7 +215,7 @@ def weight_bits(first, second):
 
 
 def weights_told(most, first, second):
-    """What is told of them, where a list has so many at most."""
+    """Returns the expected output for these weights, if a list has `most` at most."""
     code = 2 * (most + 1).bit_length() - 1
     if first > most:
         return "at=1 321=0 | " + refused_syntax(323, 1, "OutOfRange")
@@ -223,7 +226,7 @@ def weights_told(most, first, second):
 
 
 def structure_lines():
-    """Structures that are read, and that are written."""
+    """Returns lines on structures that are read, and on structures that are written."""
     for bytes_read, told in (
             ("50", "at=5 301=1 304=0 305=0"),
             ("0f00", "at=9 301=29 | " + refused_syntax(304, 9, "Short")),
@@ -242,7 +245,7 @@ def structure_lines():
 
 
 def longest_lists():
-    """29 long-term entries with the longest numbers, and 29 short-term ones."""
+    """Returns a line on 29 long-term entries with the longest numbers, and 29 short-term ones."""
     bits, items = Bits(), ["301=29"] + ["303=0"] * 29
     bits.ue(29)
     bits.u(29, 0)
@@ -264,7 +267,7 @@ def longest_lists():
 
 
 def largest_table():
-    """64 structures of 29 entries for each list."""
+    """Returns a line on 64 structures of 29 entries for each list."""
     words, told = [], []
     for least in (0, 1):
         entries = ",".join(f"304={least + i},305=1" for i in range(29))
@@ -274,7 +277,7 @@ def largest_table():
 
 
 def list_lines():
-    """All lines of lists, each with its answer."""
+    """Returns all lines on lists, each with its expected output."""
     yield from table_lines()
     yield from header_lines()
     yield from taken_over()

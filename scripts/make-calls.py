@@ -1,11 +1,12 @@
 #!/usr/bin/env python3
-"""Makes the lines that crates/vx_calls reads, and what each answers: the files stdin and stdout of that crate.
+"""Makes the files stdin and stdout of crates/vx_calls: the lines that it reads, and their expected output.
 
 usage: scripts/make-calls.py
 
-No answer is taken from the program. Rows worked by hand stand here, with what each comes to; what is long is counted by this script
-from a few words of the format. Tables are in table_calls.py, which reads and writes its structures by itself, and regions in
-fit_cases.py, a program of the definitions by sets. The files of crates/vx_calls/src say what each word of a line means.
+No expected output is taken from the program. Rows worked by hand are here, with their results; long results are computed by this script
+from a few sentences of the format. Tables are in table_calls.py, which reads and writes its structures by itself, and regions in
+fit_cases.py, which applies the definitions to sets. The files of crates/vx_calls/src say what each word of a line means.
+The last line is `N lines are answered`.
 """
 import os
 
@@ -20,7 +21,7 @@ CRATE = os.path.join(os.path.dirname(os.path.abspath(__file__)), "..", "crates",
 
 # ---- bits
 
-# Bytes, calls, and what they answer with the place behind each.
+# Bytes, calls, and their results, each with the place after it.
 FIXED = [
     ("a753f0", "u0 u1 u4 u7 u13 u12 u1 u0", f"0@0 1@1 {0b0100}@5 {0b1110101}@12 Short@12 {0b001111110000}@24 Short@24 0@24"),
     ("0123456789", "u3 u32", f"0@3 {0x091A2B3C}@35"),
@@ -28,7 +29,7 @@ FIXED = [
 
 FAR = "00000001fffffffe"
 
-# Bytes, the number that ue(v) or se(v) gives or the cause of none, and the place behind.
+# Bytes, the number of ue(v) or se(v) or the cause of a refusal, and the place after it.
 UNSIGNED = [
     ("80", 0, 1), ("40", 1, 3), ("60", 2, 3), ("0208", 64, 13), (FAR, 2 ** 32 - 2, 63), ("0000000100000000", 0x7FFFFFFF, 63),
     ("-", "Short", 0), ("00", "Short", 0), ("02", "Short", 0), ("00000001000000", "Short", 0),
@@ -39,7 +40,7 @@ SIGNED = [
     (FAR, 1 - 2 ** 31, 63), ("10", 4, 7), ("00000000", "LongCode", 0), ("08", "Short", 0),
 ]
 
-# Bytes, how many bits are taken before and their number, and why each alignment fails, if it does.
+# Bytes, how many bits are taken before, their number, and why each alignment fails, if it does.
 BAD, END, SHORT = "BadAlignment", "BadTrailing", "Short"
 ALIGNMENTS = [
     ("e0", 3, 7, [None, BAD, END]),
@@ -55,7 +56,7 @@ ALIGNMENTS = [
 
 # What is written, and its bytes.
 WRITTEN = [
-    # 0000001000001 0001001, and 1000 behind.
+    # 0000001000001 0001001, and 1000 after them.
     ("ue=64 se=-4 close", "020898"),
     (f"u3=5 u32={0x091A2B3C} u0=0 align align ue=4294967294 se=1 close", "a123456780" "00000001fffffffe" "a0"),
     ("close", "80"),
@@ -64,7 +65,7 @@ WRITTEN = [
 
 
 def alignment(taken, name, failure):
-    """What an alignment behind some bits answers: a one needs a bit more than zeros do."""
+    """Returns the result of an alignment after some bits: a one needs a bit more than zeros do."""
     if failure:
         return f"{failure}@{taken}"
     behind = taken if name == "align" else taken + 1
@@ -89,7 +90,7 @@ def add_bits(calls):
 
 
 def numbers_written(count):
-    """What is told of the codes of the numbers below this one, each as ue(v) and as u(32)."""
+    """Returns the expected output for the codes of the numbers below `count`, each as ue(v) and as u(32)."""
     codes = []
     for number in range(count):
         code = f"{number + 1:b}"
@@ -140,7 +141,7 @@ BOUNDS = [
     ([7, 4], 10, "Overflow(1)"), ([MOST, MOST], 10, "Overflow(0)"), ([4, MOST], 10, "Overflow(1)"),
 ]
 
-# Rectangles that a rectangle precedes, and others.
+# Rectangles, and whether the rectangle 2,2,2,2 precedes them.
 PRECEDES = [((4, 2, 1, 1), True), ((0, 4, 4, 1), True), ((4, 1, 1, 1), True), ((1, 3, 1, 1), False), ((0, 0, 8, 2), False)]
 
 ALL = [(0, 0, 4, 4)]
@@ -168,7 +169,7 @@ FAULTS = [
 
 
 def bounds(sizes, total):
-    """The bounds of tiles of these sizes, the last of which stands again and again."""
+    """Returns the bounds of tiles of these sizes, the last of which is repeated."""
     found, sizes = [0], list(sizes)
     while found[-1] < total:
         found.append(min(found[-1] + sizes[0], total))
@@ -177,18 +178,19 @@ def bounds(sizes, total):
 
 
 def cut(lines, start, size):
-    """Bounds inside a part, counted from it."""
+    """Returns the bounds inside a part, counted from its start."""
     return [0, *(line - start for line in lines if start < line < start + size), size]
 
 
 def parts(lines, start, size):
-    """The sizes of the parts into which lines cut what lies from a place on."""
+    """Returns the sizes of the parts into which lines cut a range."""
     inner = cut(lines, start, size)
     return [end - begin for begin, end in zip(inner, inner[1:])]
 
 
 def entries(columns, rows, slice_, sync):
-    """How many CTUs of a slice stand in another tile than the one before, or with synchronization in another row (H.266 7.4.8)."""
+    """Returns how many CTUs of a slice are in another tile than the one before, or with synchronization in another row (H.266 7.4.8).
+    """
     x, y, w, h = slice_
     across, down = parts(columns, x, w), parts(rows, y, h)
     return len(across) * (sum(down) if sync else len(down)) - 1
@@ -204,7 +206,7 @@ def rects(rectangles):
 
 
 def layout_told(columns, rows, slices, subpics):
-    """What is told of each subpicture of a layout."""
+    """Returns the expected output for each subpicture of a layout."""
     return " | ".join(subpicture_told(columns, rows, [s for s in slices if lies_in(s, subpic)], subpic) for subpic in subpics)
 
 
@@ -216,7 +218,7 @@ def subpicture_told(columns, rows, slices, subpic):
 
 
 def add_layout(calls, columns, rows, slices, subpics, fault=None):
-    """A layout of explicit sizes and totals."""
+    """Adds a layout of explicit sizes and totals."""
     answer = f"fault {fault}" if fault else layout_told(bounds(*columns), bounds(*rows), slices, subpics)
     sizes = [f"{listed(sizes)}/{total}" for sizes, total in (columns, rows)]
     calls.call(f"layout {' '.join(sizes)} {rects(slices)} {rects(subpics)}", answer)
@@ -256,7 +258,7 @@ def add_layouts(calls):
 
 # ---- units that are written
 
-# Units of SPS, none of which has an emulation byte: of a picture of 64 times 64 samples, of two subpictures side by side, and of the
+# Units of SPSs, none of which has an emulation byte: of a picture of 64 times 64 samples, of two subpictures side by side, and of the
 # right one of them alone.
 SPS = [
     "007900030233800000820412003de00300608001",
@@ -264,13 +266,13 @@ SPS = [
     "007900030233800000820417f001ef001803040008",
 ]
 
-# Units of PPS, none of which has an emulation byte, and their TemporalIds.
+# Units of PPSs, none of which has an emulation byte, and their TemporalIds.
 PPS = [
     ("00810000410208984080", 0), ("00820000410208984080", 1), ("00870000410208984080", 6),
     ("00810000410208980902", 0), ("00810000204082057a530801", 0), ("008100004102081f584008", 0),
 ]
 
-# RBSPs of adaptation parameter sets, their TemporalIds, and their units. All but the last need emulation bytes.
+# RBSPs of adaptation parameter sets, their TemporalIds, and their units. All except the last need emulation bytes.
 APS = [
     # The byte of type and id is one of the zeros.
     ("00000180", 0, "00890000030180"),

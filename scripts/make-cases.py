@@ -1,20 +1,25 @@
 #!/usr/bin/env python3
-"""Makes the cases that crates/vx_cases runs, and what each comes to: those of an independent model, of real streams, and worked ones.
+"""Makes the files stdin and stdout of crates/vx_cases: cases of an independent model, of real streams, and worked ones, with what is expected.
 
 usage: scripts/make-cases.py VECTORS STREAMS
 
-It writes crates/vx_cases/stdin and crates/vx_cases/stdout. No expected value is taken from the program: the worked cases stand in
-worked_cases.py, told_cases.py, fed_cases.py, verify_cases.py, hostile_cases.py, play_cases.py, trial_cases.py, explain_cases.py,
-fields_cases.py and pushed_cases.py, and VECTORS and STREAMS are folders.
+No expected output is taken from the program. The worked cases are in worked_cases.py, told_cases.py, fed_cases.py, verify_cases.py,
+hostile_cases.py, play_cases.py, trial_cases.py, explain_cases.py, fields_cases.py and pushed_cases.py. VECTORS and STREAMS are folders that
+aren't in the repository. Run scripts/doc_cases.py after it.
 
-In merge.txt of VECTORS a case is a line `case N merge WORDS`, with the number of a source behind each `=`, a line `source BYTES` for each
-source in hexadecimal, and a line `status=S err=LINE out=BYTES` of what `merge` comes to, with blanks of LINE as `_` and `-` for none. In
-streams.txt a stream is a line `stream N` and a line for each NAL unit, which begins with its bytes in hexadecimal; each unit stands after
-00 00 00 01. A line of extract.txt is `stream N WORDS status=S err=LINE out=BYTES`. In show.txt a stream is a line `stream N status=S
-err=LINE`, and the lines that are shown of it. A case of verify.txt is as one of merge.txt, with the number of the finished stream behind
-`verify merge`, and `out` as a text; one of play.txt is as one of merge.txt. A line of trial.txt is `SEED SOURCES PICTURES | LINE`, or
-`generate SEED SOURCES PICTURES source K BYTES`. MANIFEST.json of STREAMS
-names families of streams, with their corners, and the file that each is merged to.
+VECTORS has these files. `_` in LINE is a blank, and `-` is nothing.
+
+    merge.txt     A case is a line `case N merge WORDS`, with the number of a source after each `=`; a line `source BYTES` for each source,
+                  in hexadecimal; and a line `status=S err=LINE out=BYTES`, the expected result.
+    streams.txt   A stream is a line `stream N` and a line for each NAL unit, which begins with its bytes in hexadecimal. Each unit comes
+                  after 00 00 00 01.
+    extract.txt   Lines `stream N WORDS status=S err=LINE out=BYTES`.
+    show.txt      A stream is a line `stream N status=S err=LINE`, and the lines that are shown of it.
+    verify.txt    As merge.txt, with the number of the finished stream after `verify merge`, and `out` as text.
+    play.txt      As merge.txt.
+    trial.txt     Lines `SEED SOURCES PICTURES | LINE` or `generate SEED SOURCES PICTURES source K BYTES`.
+
+STREAMS has families of streams. Its MANIFEST.json names them, with their corners, and the file that each is merged to.
 """
 import os
 import sys
@@ -33,13 +38,13 @@ from trial_cases import add_trials
 from verify_cases import add_family_compared, add_model_compared, add_verified
 from worked_cases import add_worked
 
-# Reads and what is told a byte at a time.
+# Settings: reads and output, a byte at a time.
 BYTEWISE = ("pieces all 1", "pieces err 1")
 CRATE = os.path.join(os.path.dirname(os.path.abspath(__file__)), "..", "crates", "vx_cases")
 
 
 def add_model_merges(cases, path):
-    """The merges of an independent model."""
+    """Adds the merges of an independent model."""
     for merge in model_merges(path):
         cases.about(f"merge {merge.name} of an independent model")
         cases.merged(merge.corners, merge.sources, merge.expected, merge.level)
@@ -47,7 +52,7 @@ def add_model_merges(cases, path):
 
 
 def sections(path):
-    """What stands behind each line `stream N ..`, by N: that line, and the others."""
+    """Returns the lines after each line `stream N ..`, by N: that line, and the others."""
     found = {}
     for line in filter(None, open(path).read().split("\n")):
         if line.startswith("stream "):
@@ -58,7 +63,7 @@ def sections(path):
 
 
 def add_model_streams(cases, folder):
-    """What an independent model shows and extracts of its streams."""
+    """Adds what an independent model shows and extracts of its streams."""
     streams = {number: stream(*(bytes.fromhex(line.split()[0]) for line in lines[1:]))
                for number, lines in sections(os.path.join(folder, "streams.txt")).items()}
     shown = sections(os.path.join(folder, "show.txt"))
@@ -77,7 +82,7 @@ def add_model_streams(cases, folder):
 
 
 def add_joined(cases, folder):
-    """What an independent model shows of its streams, joined to one with ends of sequence between them."""
+    """Adds what an independent model shows of its streams, joined to one with ends of sequence between them."""
     streams, shown = ({number: lines[1:] for number, lines in sections(os.path.join(folder, name)).items()}
                       for name in ("streams.txt", "show.txt"))
     stream, lines = joined(streams, shown)
@@ -90,14 +95,14 @@ FIRST_FIELDS = ((102, 5, 7), (103, 3, 3), (104, 1, 3))
 
 
 def first_difference(one, other):
-    """The first of these fields that differs between two streams, each of which begins with an SPS."""
+    """Returns the first of these fields that differs between two streams, each of which begins with an SPS."""
     byte, another = (units(source)[0][3] for source in (one, other))
     fields = [field for field, shift, mask in FIRST_FIELDS if (byte ^ another) >> shift & mask]
     return fields[0] if fields else None
 
 
 def add_families(cases, folder):
-    """Real streams, each family at its corners, and with its last stream exchanged for the first one of another family."""
+    """Adds real streams: each family at its corners, and with its last stream exchanged for the first one of another family."""
     families = list(family_merges(folder))
     for family in families:
         cases.about(f"real streams: {family.name}")

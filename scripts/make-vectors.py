@@ -1,21 +1,25 @@
 #!/usr/bin/env python3
-"""Writes what vx_vectors reads, and what it has to answer: the files stdin and stdout of that crate.
+"""Makes the files stdin and stdout of crates/vx_vectors: the lines that it reads, and their expected output.
 
 usage: scripts/make-vectors.py FOLDER
 
-FOLDER has the vectors of a model of the format that isn't ours. vps.txt, sps.txt, pps.txt and aps.txt: on each line an RBSP in
-hexadecimal, `-` for one without bytes, and behind it `ok` with its items, `none` for a set that is dropped, or `refused` with the
-refusal's parts. sps_meaning.txt and pps_meaning.txt: an RBSP that is accepted, and what the set tells. streams.txt: a line
-`stream N`, and a line for each NAL unit, in hexadecimal; behind that nothing for a unit that is dropped, `set` with the answer for a
-parameter set, `header` with the items of a picture header, or `slice` with what is read of a slice header, and ` | header` with the
-items of the picture header that stands inside. pictures.txt: a line `stream N`, and lines for its pictures and their slices.
+FOLDER has the vectors of an independent model of the format; it isn't in the repository:
 
-The answers are the model's, word for word, with three additions. A unit that is dropped gets `dropped`. What a set tells stands
-behind its items. And what can be written again gets `written same`: sets but for those of a VPS, which is never written, picture
-headers, and slice headers with the picture header that may stand inside. No word of the model's is left out.
+    vps.txt, sps.txt, pps.txt, aps.txt   On each line an RBSP in hexadecimal, `-` if it is empty, and after it `ok` with its items, `none`
+                                         for a set that is dropped, or `refused` with the parts of the refusal.
+    sps_meaning.txt, pps_meaning.txt     On each line an RBSP that is accepted, and what the set means.
+    streams.txt                          A line `stream N`, and a line for each NAL unit, in hexadecimal. After the unit comes nothing if it
+                                         is dropped, `set` with the result for a parameter set, `header` with the items of a picture header,
+                                         or `slice` with what is read of a slice header, and ` | header` with the items of the picture header
+                                         inside it.
+    pictures.txt                         A line `stream N`, and lines for its pictures and their slices.
 
-Behind these stand lines that ask about a call by itself: call_lines.py and list_lines.py have them, with their answers, and
-structure_cases.py those on sets and headers, worked by hand.
+The expected output is the model's, word for word, with three additions. A unit that is dropped gets `dropped`. What a set means comes after
+its items. Structures that can be written again get `written same`: sets except those of a VPS, which is never written, picture headers, and
+slice headers with the picture header that may be inside.
+
+After these come lines for single calls, from call_lines.py and list_lines.py, and lines on sets and headers from structure_cases.py, all
+worked by hand.
 """
 import pathlib
 import sys
@@ -28,14 +32,14 @@ VPS = 14
 
 
 def lines_of(path):
-    """The lines that aren't empty, each as its first word and the others."""
+    """Returns the lines that aren't empty, each as its first word and the rest."""
     for line in path.read_text().splitlines():
         if line:
             yield line.partition(" ")[::2]
 
 
 def streams_of(path):
-    """The lines of each stream, by its number."""
+    """Returns the lines of each stream, by its number."""
     streams = {}
     for first, others in lines_of(path):
         if first == "stream":
@@ -46,14 +50,14 @@ def streams_of(path):
 
 
 def answer_to_set(kind, answer, told):
-    """What is answered to a set of a kind that tells this."""
+    """Returns the expected output for a set of a kind, given what the model says of it."""
     if not answer.startswith("ok ") or kind == "vps":
         return answer
     return answer + "".join(f" | {words}" for words in told) + SAME
 
 
 def answer_to_unit(unit, answer):
-    """What is answered to a unit of a stream."""
+    """Returns the expected output for a unit of a stream."""
     if not answer:
         return "dropped"
     is_vps = int(unit[2:4], 16) >> 3 == VPS
@@ -61,7 +65,7 @@ def answer_to_unit(unit, answer):
 
 
 def sets(folder):
-    """The lines of sets, each with its answer."""
+    """Returns the lines of sets, each with its expected output."""
     for kind in ("vps", "sps", "pps", "aps"):
         meanings = folder / f"{kind}_meaning.txt"
         told = dict(lines_of(meanings)) if meanings.exists() else {}
@@ -71,7 +75,7 @@ def sets(folder):
 
 
 def streams(folder):
-    """The lines of streams, each with its answer."""
+    """Returns the lines of streams, each with its expected output."""
     pictures = streams_of(folder / "pictures.txt")
     for number, units in streams_of(folder / "streams.txt").items():
         yield f"stream {number}", f"stream {number}"

@@ -3,11 +3,11 @@
 
     goosequince --help | scripts/man-page.py > goosequince.1
 
-The first line of that text is the program's name and what it is for. Lines that begin with two blanks are entries of a list, with a tag
-and, after two blanks or in lines that are indented further, what it means; other lines are a paragraph. The first list are the words of
-each command. A paragraph that begins with `The exit status` is on that, and the one after it on the rules.
+The first line of that text is the program's name and purpose. Lines that begin with two blanks are entries of a list: a tag and its
+meaning, which comes after two blanks or in lines that are indented further. Other lines are paragraphs. The first list has the arguments of
+each command. A paragraph that begins with `The exit status` is on that, and the one after it is on the rules.
 
-The date is today's, or that of SOURCE_DATE_EPOCH. `mandoc -T lint goosequince.1` has nothing to say of the page.
+The date is today's, or that of SOURCE_DATE_EPOCH. `mandoc -T lint goosequince.1` reports nothing.
 """
 import os
 import re
@@ -17,33 +17,33 @@ import time
 
 
 def escaped(text):
-    """Text as mdoc takes it."""
+    """Returns text with mdoc's special characters escaped."""
     for plain, mark in (("\\", "\\e"), ("^", "\\(ha"), ("~", "\\(ti")):
         text = text.replace(plain, mark)
     return re.sub(r"^([.'])", r"\\&\1", text)
 
 
 def prose(text):
-    """Lines of text, each sentence on lines of its own."""
+    """Returns lines of text, with each sentence on lines of its own."""
     for sentence in re.split(r"(?<=[.:]) (?=[A-Z])", text):
         yield from map(escaped, textwrap.wrap(sentence, 76, break_long_words=False, break_on_hyphens=False))
 
 
 def macro(word):
-    """A word of a command."""
+    """Returns the macro for an argument of a command."""
     if word.startswith("--"):
         return f"Fl {word[1:]}"
     return f"Cm {word}" if word.islower() else f"Ar {word}"
 
 
 def words(tag):
-    """The words of a command, with what may be left out."""
+    """Returns the arguments of a command, with those that may be left out in brackets."""
     parts = re.findall(r"\[([^]]*)\]|(\S+)", tag)
     return [f"Oo {' '.join(map(macro, option.split()))} Oc" if option else macro(word) for option, word in parts]
 
 
 def blocks(lines):
-    """Paragraphs, each a text, and lists, each of entries with a tag and a text."""
+    """Returns the blocks: paragraphs, each a text, and lists, each of entries with a tag and a text."""
     for block in "\n".join(lines).split("\n\n"):
         if not block.startswith(" "):
             yield " ".join(block.split())
@@ -59,7 +59,7 @@ def blocks(lines):
 
 
 def listed(entries, of_commands):
-    """A list."""
+    """Returns a list."""
     yield ".Bl -tag -width Ds"
     for tag, text in entries:
         yield f".It {' '.join(words(tag))}" if of_commands else f".It {escaped(tag)}"
@@ -68,7 +68,7 @@ def listed(entries, of_commands):
 
 
 def page(lines):
-    """The page."""
+    """Returns the page."""
     name, _, purpose = lines[0].partition(": ")
     told = list(blocks(lines[2:]))
     date = time.gmtime(int(os.environ.get("SOURCE_DATE_EPOCH", time.time())))

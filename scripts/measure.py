@@ -4,7 +4,7 @@
 usage: scripts/measure.py NAME [--bytes N] [--per N WORD] -- COMMAND ..
 
 Both are of the command's own process, from its first instruction to its end: its clock, and VmHWM at its end, where ptrace stops it.
-(ru_maxrss of an ended child has the memory of the measuring program in it.) With --bytes it also prints the rate for N bytes, and
+(ru_maxrss of an ended child includes the memory of the measuring program.) With --bytes it also prints the rate for N bytes, and
 with --per the time for each of N things. Figures that a page shows go into docs/measured by hand, with commit, kit, machine, date
 and load; scripts/speed-chart.py makes the tables.
 """
@@ -20,7 +20,7 @@ TRIALS = 3
 
 
 def ptrace(request, pid, number):
-    """One call of ptrace."""
+    """Makes one call of ptrace."""
     if LIBC.ptrace(request, pid, None, ctypes.c_void_p(number)) == -1:
         raise OSError(ctypes.get_errno(), "ptrace")
 

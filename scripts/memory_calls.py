@@ -1,9 +1,9 @@
-"""Sources and sinks in memory, worked by hand: lines of crates/vx_calls."""
+"""Lines of crates/vx_calls on sources and sinks in memory, worked by hand."""
 from bit_calls import joined, listed, spelled, told
 
 TEXT = "abcdefg"
 
-# The sizes of pieces, the calls that fail, the room for each read of the bytes "abcdefg", and what each gives, `None` where it fails.
+# The sizes of pieces, the calls that fail, the room for each read of the bytes "abcdefg", and the result of each, `None` if it fails.
 READS = [
     ([], [], 4, ["abcd", "efg", "", ""]),
     ([0, 3], [], 4, ["a", "bcd", "e", "fg", ""]),
@@ -12,8 +12,8 @@ READS = [
     ([5], [1], 0, ["", None, ""]),
 ]
 
-# The room, the sizes of pieces, the calls that fail, what is written with how many bytes of it are taken, `None` where the write fails,
-# and the bytes in the end.
+# The room, the sizes of pieces, the calls that fail, what is written with how many bytes of it are taken, `None` if the write fails,
+# and the bytes at the end.
 WRITES = [
     (10, [], [], [("abc", 3), ("", 0), ("de", 2)], "abcde"),
     (4, [], [], [("abc", 3), ("de", 1), ("f", None), ("", 0)], "abcd"),
@@ -21,7 +21,7 @@ WRITES = [
     (0, [], [2], [("", 0), ("a", None), ("", None)], ""),
 ]
 
-# The room, the sizes of pieces, the calls that fail, a piece that is to be written whole, whether it is, and the bytes in the end.
+# The room, the sizes of pieces, the calls that fail, a piece that is to be written whole, whether it is, and the bytes at the end.
 WHOLES = [
     (9, [2], [], "abcde", True, "abcde"),
     (9, [2], [2], "abcde", False, "abcd"),
@@ -36,7 +36,7 @@ def word(text):
 
 
 def outcome(told_of):
-    """What is told of a call that fails, or not."""
+    """Returns the output for a call that fails, or doesn't."""
     return "failed" if told_of is None else str(told_of)
 
 

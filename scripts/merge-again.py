@@ -1,15 +1,20 @@
 #!/usr/bin/env python3
-"""Merges sets of streams, and compares each merge, and what is extracted of it, with the sources, by what the program tells of them.
+"""Merges sets of streams, and compares each merge, and each extraction from it, with the sources, by what the program shows of them.
 
 usage: scripts/merge-again.py PROGRAM COUNT [STREAMS [MERGES]]
 
-PROGRAM is the built program. The sets are those of small_streams.py of the numbers below COUNT, one to nine streams each; the families of
-real streams of the folder STREAMS; and the sources of merges that are done in MERGES, a file as merge.txt of scripts/make-cases.py. These
-are compared: how many pictures there are; of each the type of its slices, its TemporalId, whether it starts a coded layer video sequence,
-its picture order count, whether an end of sequence stands before it, its messages, how many subpictures and slices it has; of small streams
-all this with what they were written from, and the data of each slice. All regions are merged again to the same bytes. `verify merge` says
-that the merge is that of its sources, that each extraction is its source, and the same of what `--tid 0` leaves of both. The status is 0
-where all is so. Of bodies of adaptation parameter sets, reference picture lists, QPs and what else headers mean nothing tells but `verify`.
+PROGRAM is the built program. The sets are those of small_streams.py with the numbers below COUNT, one to nine streams each; the families
+of real streams of the folder STREAMS; and the sources of the merges in MERGES that aren't refused, a file like merge.txt of
+scripts/make-cases.py.
+
+These are compared: how many pictures there are, and of each picture the type of its slices, its TemporalId, whether it starts a coded
+layer video sequence, its picture order count, whether an end of sequence comes before it, its messages, and how many subpictures and
+slices it has. Of small streams all this is also compared with what they were written from, as is the data of each slice. All regions
+are merged again to the same bytes. `verify merge` has to confirm that the merge is that of its sources, that each extraction is its
+source, and the same of what `--tid 0` leaves of both.
+
+The status is 1 if anything differs. Bodies of adaptation parameter sets, reference picture lists, QPs and the rest of what headers mean
+are only compared by `verify`.
 """
 import os
 import sys
@@ -22,24 +27,24 @@ from small_streams import Sibling
 
 DONE = ["", 0]
 LOWEST = ("--tid", 0)
-# What a picture of a merge has as all its sources have it, by the names that it is written with.
+# What a picture of a merge has in common with its sources, by the names that it is written with.
 KIND = ("type", "tid", "clvss", "poc", "after_end")
 
 
 def kind_of(picture):
-    """That of a picture which is shown."""
+    """Returns these of a picture that is shown."""
     return [picture["type"], picture["tid"], picture["line"]["clvss"], picture["line"]["poc"], picture["ended"]]
 
 
 class Trial:
-    """A set of streams at their corners, what is made of them, and what isn't as it should be."""
+    """A set of streams at their corners, what is made from them, and a list of what is wrong."""
 
     def __init__(self, program, folder, corners, sources, counts):
         self.program, self.folder, self.corners, self.counts, self.wrong = program, folder, corners, counts, []
         self.sources = [self.file(f"source{k}", source) for k, source in enumerate(sources)]
 
     def file(self, name, stream):
-        """The path of a file with these bytes."""
+        """Returns the path of a file with these bytes."""
         path = os.path.join(self.folder, name)
         with open(path, "wb") as file:
             file.write(stream)
@@ -50,28 +55,28 @@ class Trial:
             self.wrong.append((what, is_so, should))
 
     def made(self, *words):
-        """What the program writes with these words, which it can do."""
+        """Returns what the program writes with these arguments. It may not refuse them."""
         out, *ending = run(self.program, *words)
         self.expect(words, ending, DONE)
         return out
 
     def placed(self, paths):
-        """The words that place files at the corners."""
+        """Returns the arguments that place the files at the corners."""
         return [f"{corner}={path}" for corner, path in zip(self.corners, paths)]
 
     def shown(self, path):
-        """The pictures of a file, which breaks no rule."""
+        """Returns the pictures of a file, which breaks no rule."""
         shown = Shown(self.program, path)
         self.expect(("show", path), shown.ending, DONE)
         return shown.pictures
 
     def verify(self, finished, words, count):
-        """Has it said that a finished stream of so many pictures is the merge of these."""
+        """Checks by `verify merge` that a finished stream of `count` pictures is the merge of these."""
         self.counts["verified"] += 1
         self.expect(("verify", words), self.made("verify", "merge", finished, *words), b"yes pictures %d\n" % count)
 
     def compare(self, name, pictures, sources, messages):
-        """Compares pictures with those of the sources that they were made of, and with those that have the messages."""
+        """Compares pictures with those of the sources that they were made from, and with those that have the messages."""
         lengths = [len(source) for source in (*sources, messages)]
         self.expect((name, "count"), lengths, [len(pictures)] * len(lengths))
         for number, (picture, told, *parts) in enumerate(zip(pictures, messages, *sources)):
@@ -83,7 +88,7 @@ class Trial:
             self.expect((name, number, "messages"), picture["messages"], told["messages"])
 
     def check(self, facts):
-        """Merges the streams, and compares. Of small ones there are facts of the pictures of each."""
+        """Merges the streams, and compares. For small streams the facts of the pictures of each are given."""
         merge = self.made("merge", *self.placed(self.sources))
         path = self.file("merge", merge)
         pictures, sources = self.shown(path), [self.shown(source) for source in self.sources]
@@ -114,7 +119,7 @@ class Trial:
 
 
 def small_set(seed):
-    """The corners, the streams and the facts of a set of small streams: a grid of one size."""
+    """Returns the corners, the streams and the facts of a set of small streams: a grid of regions of one size."""
     across, down = seed % 3 + 1, seed // 3 % 3 + 1
     siblings = [Sibling(seed, number) for number in range(across * down)]
     width, height = siblings[0].pictures[0]["size"]
@@ -123,7 +128,7 @@ def small_set(seed):
 
 
 def sets(count, streams=None, merges=None):
-    """The sets, with their names."""
+    """Returns the sets, with their names."""
     for seed in range(count):
         yield seed, *small_set(seed)
     for merge in [*(family_merges(streams) if streams else ()), *(model_merges(merges) if merges else ())]:
@@ -132,7 +137,7 @@ def sets(count, streams=None, merges=None):
 
 
 def main(program, count, *others):
-    """Tries the sets, and answers whether all are as they should be."""
+    """Tries the sets, and returns whether all is right."""
     counts, all_wrong = Counter(), 0
     for name, corners, sources, facts in sets(int(count), *others):
         with tempfile.TemporaryDirectory() as folder:

@@ -1,5 +1,5 @@
 #!/usr/bin/env python3
-"""Fills in the numbers of README.md and docs/*.md that stand between marks, or checks them: see page_numbers.py.
+"""Fills in the numbers of README.md and docs/*.md that are between marks, or checks them: see page_numbers.py.
 
     scripts/numbers.py [--check | --list]
 """

@@ -1,15 +1,15 @@
-"""Fills in the numbers of README.md and docs/*.md that stand between marks, so that nobody types them.
+"""Fills in the numbers of README.md and docs/*.md that are between marks, so that they aren't typed by hand.
 
     scripts/numbers.py [--check | --list]
 
-A mark is `<!-- from: NAME -->1,262<!-- / -->`. Marks in code are left alone. The names:
+A mark is `<!-- from: NAME -->1,262<!-- / -->`. Marks in code are left as they are. The names:
 
     believed.PROMISE.WHAT   a number of docs/generated/BELIEVED.md, from scripts/believed.py
     cases.CRATE             the lines of crates/CRATE/stdout
     edits.gate, edits.all   the edits in crates/*/must-fail, and these with those in scripts/twins
     crates                  the crates of the repository
     version                 the version that the program prints
-    kit                     what `rt version` prints first; left as it is where there is no `rt`
+    kit                     what `rt version` prints first; left as it is if there is no `rt`
     measured.FILE.WHAT      the value in the last row of docs/measured/FILE.tsv whose first column is WHAT
     measured.FILE.WHAT.COLUMN   another column of that row
 
@@ -30,18 +30,18 @@ CODE = re.compile(r"^(`{3,}|~{3,}).*?^\1\s*?$|(?<!`)(`+)(?!`)[^\n]*?(?<!`)\2(?!`
 
 
 def pages(root=ROOT):
-    """The pages with marks."""
+    """Returns the pages with marks."""
     return [root / "README.md", *sorted((root / "docs").glob("*.md"))]
 
 
 def shown(value):
-    """A value as pages show it."""
+    """Returns a value as pages show it."""
     return f"{int(value):,}" if re.fullmatch(r"\d+", str(value)) else str(value)
 
 
 @functools.cache
 def believed_numbers():
-    """The numbers of scripts/believed.py, by their names."""
+    """Returns the numbers of scripts/believed.py, by their names."""
     import believed
 
     return {f"believed.{name}": value for name, value in believed.numbers().items()}
@@ -49,7 +49,7 @@ def believed_numbers():
 
 @functools.cache
 def plain_numbers():
-    """All other numbers that don't depend on measurements."""
+    """Returns all other numbers that don't depend on measurements."""
     crates = ROOT / "crates"
     found = {f"cases.{path.parent.name}": path.read_bytes().count(b"\n") for path in crates.glob("*/stdout")}
     found["edits.gate"] = sum(1 for _ in crates.glob("*/must-fail/*.edit"))
@@ -63,7 +63,7 @@ def plain_numbers():
 
 
 def measured(name, root=ROOT):
-    """The value of `measured.FILE.WHAT` or `measured.FILE.WHAT.COLUMN`; None if there is no such row."""
+    """Returns the value of `measured.FILE.WHAT` or `measured.FILE.WHAT.COLUMN`; None if there is no such row."""
     _, file, what = name.split(".", 2)
     path = root / f"docs/measured/{file}.tsv"
     if not path.exists():
@@ -75,14 +75,14 @@ def measured(name, root=ROOT):
 
 
 def value_of(name, root=ROOT):
-    """What stands for a name; None if it is unknown."""
+    """Returns the value of a name; None if it is unknown."""
     if name.startswith("measured.") and name.count(".") > 1:
         return measured(name, root)
     return believed_numbers().get(name) if name.startswith("believed.") else plain_numbers().get(name)
 
 
 def filled(text, root=ROOT):
-    """The text with its numbers filled in, and a line for each name that is unknown."""
+    """Returns the text with its numbers filled in, and a line for each name that is unknown."""
     unknown = []
 
     def fill(mark):
@@ -102,7 +102,7 @@ def filled(text, root=ROOT):
 
 
 def faults_of(path, root=ROOT):
-    """What is wrong in a page, a line each."""
+    """Returns what is wrong in a page, a line each."""
     text = path.read_text()
     made, unknown = filled(text, root)
     old, new = MARK.findall(text), MARK.findall(made)
