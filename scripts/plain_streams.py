@@ -1,5 +1,6 @@
-"""Small VVC streams (H.266, Annex B) with plain pictures, put together field by field in the order of the syntax tables of clause 7.3: what
-isn't asked for is off, or 0. The pictures have I slices, 8 bits and a lsb of 4 bits, and one layer.
+"""Small VVC streams (H.266, Annex B) with plain pictures, written field by field in the order of the syntax tables of clause 7.3.
+
+Everything that isn't asked for is off, or 0. The pictures have I slices, 8 bits, 4 low bits of the picture order count, and one layer.
 """
 from collections import namedtuple
 
@@ -9,19 +10,19 @@ TRAIL, STSA, IDR_N_LP, CRA = 0, 1, 8, 9
 VPS, SPS, PPS, PREFIX_APS, PH, EOS, EOB, SEI = 14, 15, 16, 17, 19, 21, 22, 23
 PAYLOAD = b"\x5a\xa7\x80"
 
-# What the SPS switches on, which headers depend on.
+# What the SPS switches on, as far as headers depend on it.
 Tools = namedtuple("Tools", "alf lmcs scaling chroma", defaults=(0, 0, 0, 0))
 # Two ids of sets that a picture header names, and the flag of chroma residual scaling.
 Header = namedtuple("Header", "kind pps lsb lmcs scaling residual", defaults=(IDR_N_LP, 0, 0, None, None, 0))
 
 
 def stream(*nal_units):
-    """A byte stream of units."""
+    """Returns a byte stream of units."""
     return b"".join(b"\0\0\0\1" + nal_unit for nal_unit in nal_units)
 
 
 def sps(width, height, ctu=64, tools=Tools(), level=51, window=None, subpics=None, id_length=None, dpb=(0, 0, 0), sublayers=0):
-    """An SPS; subpictures are x, y, width and height in CTUs."""
+    """Returns an SPS. Subpictures are given by x, y, width and height in CTUs."""
     w = Writer(None)
     w.u(8, 0)
     w.u(3, sublayers)
@@ -53,7 +54,7 @@ def sps(width, height, ctu=64, tools=Tools(), level=51, window=None, subpics=Non
 
 
 def write_size(w, width, height, window):
-    """The size of pictures, and their conformance window."""
+    """Writes the size of pictures, and their conformance window."""
     w.ue(width)
     w.ue(height)
     w.u(1, int(window is not None))
@@ -62,7 +63,7 @@ def write_size(w, width, height, window):
 
 
 def write_subpics(w, width, height, ctu, subpics, id_length):
-    """Subpictures that are independent, with ids that are their indices."""
+    """Writes subpictures that are independent, with ids that are their indices."""
     columns, rows, last = -(-width // ctu), -(-height // ctu), len(subpics) - 1
     w.ue(last)
     if last:
@@ -77,7 +78,7 @@ def write_subpics(w, width, height, ctu, subpics, id_length):
 
 
 def write_tools(w, ctu, tools):
-    """The SPS from the smallest coding blocks on."""
+    """Writes the SPS from the smallest coding blocks on."""
     w.ue(0)
     w.u(1, 0)
     w.ue(0)
@@ -112,7 +113,7 @@ def write_tools(w, ctu, tools):
 
 
 def pps(width, height, number=0, qp=26, tid=0, partition=None, window=None):
-    """A PPS; a partition is what writes its fields."""
+    """Returns a PPS. `partition` is a function that writes the fields of its partition."""
     w = Writer(None)
     w.u(6, number)
     w.u(4, 0)
@@ -135,8 +136,8 @@ def pps(width, height, number=0, qp=26, tid=0, partition=None, window=None):
 
 
 def partition(ctu, columns, rows, slices, listed=(), across_tiles=0, across_slices=0):
-    """What writes the tiles, which are told one by one, and some slices, by the fields of a slice list: pairs of a code and its number, in
-    which `u` is one bit.
+    """Returns a function that writes the tiles, with all sizes explicit, and some slices. `listed` are the fields of the slice list:
+    pairs of a code and its number, where `u` is one bit.
     """
 
     def write(w):
@@ -158,12 +159,12 @@ def partition(ctu, columns, rows, slices, listed=(), across_tiles=0, across_slic
 
 
 def aps(kind, number, body, tid=0):
-    """An adaptation parameter set."""
+    """Returns an adaptation parameter set."""
     return unit(PREFIX_APS, tid, bytes([kind << 5 | number]) + body)
 
 
 def write_header(w, tools, header):
-    """A picture header."""
+    """Writes a picture header."""
     irap = int(header.kind in IRAP_OR_GDR)
     w.u(1, irap)
     w.u(1, 0)
@@ -183,7 +184,7 @@ def write_header(w, tools, header):
 
 
 def ph(header, tools=Tools(), tid=0):
-    """A PH unit."""
+    """Returns a PH unit."""
     w = Writer(None)
     write_header(w, tools, header)
     return unit(PH, tid, w.closed())
@@ -191,7 +192,7 @@ def ph(header, tools=Tools(), tid=0):
 
 def slice_unit(header, tools=Tools(), tid=0, inside=False, subpic=None, address=None, alf=None, lmcs=None, scaling=None, qp_delta=0,
                payload=PAYLOAD):
-    """A slice, with its picture header inside or not; an id and an address are a number and its bits."""
+    """Returns a slice, with its picture header inside or not. A subpicture id and an address are given by a number and its bits."""
     w = Writer(None)
     w.u(1, int(inside))
     if inside:

@@ -8,22 +8,22 @@ BROKEN = bytes.fromhex("000001 8079")
 # Two pairs of files, each pair one picture, and what is written of them.
 PAIRS = BESIDE * 2
 JOINED = M + EOS_UNIT + M
-# Two regions of one file, and one of two.
+# Two regions, one of one file and one of two.
 LEFT_TWO = (*BESIDE, "0,0")
 
 
 def played(cases, corners, files, expected, settings=(), sizes=(WHOLE, BYTEWISE), level=""):
-    """Files at their corners."""
+    """Adds files at their corners."""
     say_in_pieces(cases, f"play {level}{cases.placed(corners, files)}", expected, sizes, settings)
 
 
 def later(lsb=0, kind=I0.kind, **fields):
-    """A picture of another kind, or of another lsb, behind A."""
+    """Returns picture A, and after it a picture of another kind, or with other low bits of the order count."""
     return A + stream(slice_unit(Header(kind, lsb=lsb), inside=True, **fields))
 
 
 def add_joined(cases):
-    """Pictures that are joined."""
+    """Adds pictures that are joined."""
     cases.about("play: two pairs of files; a file of two pictures beside two files; one picture less; a level; files that are merged alone")
     played(cases, PAIRS, [A] * 4, Expected(out=JOINED))
     assert len(JOINED) == 146
@@ -47,7 +47,7 @@ def add_joined(cases):
 
 
 def add_refused(cases):
-    """What is refused, with the number of a file or of a region."""
+    """Adds what is refused, with the number of a file or of a region."""
     cases.about("play: files that are refused at their first unit, behind all rounds, and behind a difference in length; corners as for merge")
     played(cases, PAIRS, (BROKEN, A, A, A), refused("F3 source 0 byte 3"))
     played(cases, PAIRS, (A, A, A, BROKEN), refused("F3 source 3 byte 3", M))
@@ -76,12 +76,12 @@ def add_refused(cases):
 
 
 def gray_of(header):
-    """The picture A with another header."""
+    """Returns picture A with another header."""
     return stream(sps(64, 64), pps(64, 64), slice_unit(header, inside=True))
 
 
 def add_generated(cases):
-    """Pictures of 2 by 2 CTUs: one, and two of which the second starts no sequence."""
+    """Adds pictures of 2 by 2 CTUs: one, and two of which the second starts no sequence."""
     one = unhex("000000010079000302338000004080812003de0030060800100000000100810000204040898408000000010041c41889891774f180")
     two = unhex("000000010079000302338000004080812003de0030060800100000000100810000204040898302000000010041c4181e2138422e80"
                 "00000001000188f81964afc00e80")
@@ -93,7 +93,7 @@ def add_generated(cases):
 
 
 def add_many(cases):
-    """As many regions and files as there may be, and one more."""
+    """Adds as many regions and files as there may be, and one more."""
     cases.about("play: 65 regions, and 257 files, of which none is read; 64 regions and 256 files")
     corners = [f"{64 * (k % 8)},{64 * (k // 8)}" for k in range(65)]
     unread = ("fail all 0",)
@@ -107,13 +107,13 @@ def add_many(cases):
 
 
 def add_unread(cases):
-    """Files that can't be read, each read failing once, and files that aren't read."""
+    """Adds files that can't be read, each read failing once, and files that aren't read."""
     cases.about("play: a file that can't be read; each read fails once: 60 bytes a read, and a byte; a file behind others isn't read")
     words = f"play {cases.placed(PAIRS, [A] * 4)}"
     for k in range(4):
         fault = failed(f"read fault source {k}", b"" if k < 2 else M)
         say(cases, words, fault, f"closed {k}")
-        # The read behind the last byte is one more.
+        # There is one more read after the last byte.
         for call in range(2):
             say(cases, words, fault, *SIXTY, f"fail {k} {call}")
         say(cases, words, Expected(out=JOINED), *SIXTY, f"fail {k} 2")
@@ -132,7 +132,7 @@ def add_unread(cases):
 
 
 def add_words(cases):
-    """Words."""
+    """Adds arguments that aren't understood."""
     cases.about("words of play that aren't understood")
     not_understood(cases, "play", "play --level 51", "play a", "play 0,0=", "play 0,0=a b", "play 00,0=a", "play 0,0=a 00,0=a",
                    "play 16384,0=a", "play --level 256 0,0=a", "play 0,0=a --level 51", "check play 0,0=a", "verify play 0,0=a",
@@ -148,7 +148,7 @@ def add_played(cases):
 
 
 def add_model_played(cases, path):
-    """What an independent model plays: files in regions, whole and refused."""
+    """Adds what an independent model plays: files in regions, whole and refused."""
     for line in open(path):
         words = line.split()
         if words[:1] == ["case"]:

@@ -19,16 +19,18 @@ import re
 import sys
 
 ROOT = pathlib.Path(__file__).resolve().parent.parent
-# The bytes of input and answers of a piece, without its streams. A larger item is a piece of its own.
+# The bytes of input and output of a piece, without its streams. A larger item is a piece of its own.
 SIZE = 6_000
-# One of so many pieces is tried before its neighbours.
+# Of every STRIDE pieces one is tried before its neighbours.
 STRIDE = 12
-# The first bytes of an answer of vx_cases that have its status and its line.
+# The first bytes of an expected line of vx_cases that have its status and its line.
 HEAD = 300
 
 
 class Item:
-    """Lines that belong together, their answers, the names that they define and use, and the text in which words are looked for."""
+    """Lines that belong together, their expected output, the names that they define and use, and the text in which words are looked
+    for.
+    """
 
     def __init__(self, lines, answers, gives=(), uses=(), text=""):
         self.lines, self.answers, self.gives, self.uses, self.text = lines, answers, gives, uses, text
@@ -42,7 +44,7 @@ class Item:
 
 
 def case_items(given, answers):
-    """The cases of vx_cases, each with the lines that hold for it alone, and its streams."""
+    """Returns the cases of vx_cases, each with the lines that apply to it alone, and its streams."""
     held, kept, comment = [], [], ""
     for line in given:
         word, _, rest = line.partition(" ")
@@ -65,7 +67,7 @@ def case_items(given, answers):
 
 
 def call_items(given, answers):
-    """The calls of vx_calls."""
+    """Returns the calls of vx_calls."""
     comment = ""
     for line in given:
         if line.startswith("#"):
@@ -75,7 +77,7 @@ def call_items(given, answers):
 
 
 def vector_items(given, answers):
-    """The lines of vx_vectors before its first stream, and each stream with the questions about it."""
+    """Returns the lines of vx_vectors before its first stream, and each stream with the questions about it."""
     first = next((k for k, line in enumerate(given) if line.startswith("stream ")), len(given))
     for line in given[:first]:
         yield Item([line], [next(answers)], text=line)
@@ -97,7 +99,7 @@ def items_of(crate):
 
 
 def needed(item, makers):
-    """The items that define the names that an item uses, and the items that these need, in order."""
+    """Returns the items that define the names that an item uses, and the items that these need, in order."""
     found = []
     for name in item.uses:
         if name in makers:
@@ -107,7 +109,7 @@ def needed(item, makers):
 
 
 def pieces_of(crate, words):
-    """The pieces: each a list of items, and of each whether it counts or only defines names for later ones."""
+    """Returns the pieces: each is a list of items, with a flag for each: it counts, or it only defines names for later ones."""
     makers, pieces, piece, latest, size = {}, [], [], {}, 0
     for item in items_of(crate):
         if item.answers and item.has(words):
@@ -125,7 +127,7 @@ def pieces_of(crate, words):
 
 
 def cut(crate, folders, words):
-    """Deals the pieces to the folders."""
+    """Deals the pieces out to the folders."""
     pieces = pieces_of(crate, words)
     ranks = sorted(range(len(pieces)), key=lambda k: (k % STRIDE, k))
     for rank, k in enumerate(ranks):
@@ -134,7 +136,7 @@ def cut(crate, folders, words):
 
 
 def written(files):
-    """The answers of each piece, by its number, in the output of `rt try`."""
+    """Returns the output of each piece, by its number, in the output of `rt try`."""
     found = {}
     for file in files:
         own = []
@@ -147,7 +149,7 @@ def written(files):
 
 
 def compare(crate, files, words):
-    """Counts right and wrong answers, and those that weren't tried."""
+    """Counts right and wrong results, and those that weren't tried."""
     told, passed, failed = written(files), 0, 0
     for k, piece in enumerate(pieces_of(crate, words)):
         if k not in told:

@@ -1,26 +1,25 @@
-"""RBSPs of messages and of adaptation parameter sets, worked by hand from the format (H.266 7.3.2.6, 7.3.2.9, 7.3.6): lines of
-crates/vx_calls."""
+"""Lines of crates/vx_calls on RBSPs of messages and of adaptation parameter sets, worked by hand from H.266 7.3.2.6, 7.3.2.9 and 7.3.6."""
 from bit_calls import joined, spelled, told
 
-# RBSPs, and the messages that are carried of them.
+# RBSPs, and their messages that are carried.
 READ = [
     ("900403e8019080", "144=03e80190"),
     ("900403e8019093011080", "144=03e80190 147=10"),
     # A message that isn't carried.
     ("05012a93011080", "147=10"),
     ("8900900080", "137=- 144=-"),
-    # A payload of 80 alone, and a type of 80.
+    # A payload that is a single 80, and a type of 80.
     ("89018080", "137=80"),
     ("800080", "-"),
     # Five bytes of payload leave no 80.
     ("900503e8019080", "none"),
     # No message, no size, no payload, no end, another end.
     ("-", "none"), ("80", "none"), ("9080", "none"), ("90ffff80", "none"), ("9000", "none"), ("900040", "none"),
-    # Something behind the 80.
+    # A byte after the 80.
     ("90008000", "none"),
 ]
 
-# Types and sizes of messages, and what is spelled before the payload.
+# Types and sizes of messages, and the bytes before the payload.
 SPELLED = [
     (0, 0, "0000"), (254, 254, "fefe"), (255, 255, "ff00ff00"), (256, 256, "ff01ff01"), (509, 509, "fffefffe"), (510, 510, "ffff00ffff00"),
     (137, 765, "89ffffff00"), (147, 1, "9301"),

@@ -1,18 +1,19 @@
 #!/usr/bin/env python3
-"""Extracts each subpicture of many streams, and compares what `show` tells of it with the source, picture by picture.
+"""Extracts each subpicture of many streams, and compares what `show` prints of it with the source, picture by picture.
 
 usage: scripts/read-again.py PROGRAM COUNT [FOLDER]
 
-PROGRAM is the built program. The streams are those of small_streams.py of the numbers below COUNT, and the files *.vvc of FOLDER. Of each
-picture that is shown of an extraction these are compared: the type of its slices, its TemporalId, whether it starts a coded layer video
-sequence, its picture order count, whether an end of sequence stands before it, one subpicture, as many slices as the source's has; its
-picture header and its slices byte for byte, found by the lengths and places that are shown; the unit of its messages. Of small streams
-also the size, the tile columns and rows and the slices of the sets that are shown last, the statuses and lines of E2 to E4, and what
-`--tid 0` leaves out; and all of it is compared with what the stream was written from, as is what is shown of the source. Subpicture 0 of
-each extraction is extracted again, to the same bytes. The status is 0 where all is as it should be.
+PROGRAM is the built program. The streams are those of small_streams.py with the numbers below COUNT, and the files *.vvc of FOLDER. Of each
+picture of an extraction these are compared: the type of its slices, its TemporalId, whether it starts a coded layer video sequence, its
+picture order count, whether an end of sequence comes before it, that it has one subpicture, and as many slices as the source's; its
+picture header and its slices byte for byte, found by the lengths and places that are shown; the unit of its messages.
 
-`show` doesn't tell, and so isn't compared: the other fields of the sets, which are written anew; whether the adaptation parameter sets
-in force have the same bodies; reference picture lists, QPs and what else a header means under these sets; the samples.
+Of small streams also these are compared: the size, the tile columns and rows and the slices of the sets that are shown last, the statuses
+and lines of E2 to E4, and what `--tid 0` leaves out. All of it is compared with what the stream was written from, as is what is shown of
+the source. Subpicture 0 of each extraction is extracted again, to the same bytes. The status is 1 if anything differs.
+
+`show` doesn't print the following, so it isn't compared: the other fields of the sets, which are written anew; whether the adaptation
+parameter sets in force have the same bodies; reference picture lists, QPs and what else a header means under these sets; the samples.
 """
 import glob
 import os
@@ -25,7 +26,7 @@ from small_streams import Stream
 
 
 def facts_of(shown):
-    """What is known of the pictures of a file by what is shown of them: all slices, of whatever subpictures."""
+    """Returns what is known of the pictures of a file from what is shown of them: all slices, of whatever subpictures."""
     return [{
         "type": p["type"], "tid": p["tid"], "clvss": p["line"]["clvss"], "poc": p["line"]["poc"], "header": p["header"],
         "after_end": p["ended"], "slices": p["slices"], "subpictures": p["line"]["subpictures"],
@@ -33,7 +34,7 @@ def facts_of(shown):
 
 
 def differs(picture, number, fact, slices):
-    """Which of the things that are shown of a picture isn't as it should be."""
+    """Returns which of the values that are shown of a picture are wrong."""
     line = picture["line"]
     pairs = {
         "type": (picture["type"], fact["type"]), "tid": (picture["tid"], fact["tid"]), "clvss": (line["clvss"], fact["clvss"]),
@@ -44,13 +45,13 @@ def differs(picture, number, fact, slices):
 
 
 def differs_as_part(picture, number, fact, slices):
-    """The same of a picture of an extraction."""
+    """Returns the same for a picture of an extraction."""
     one = picture["line"]["subpictures"] == 1
     return differs(picture, number, fact, slices) + ([] if one else ["subpictures"])
 
 
 def differs_around(picture, fact, index):
-    """Which of the numbers of its sets isn't that of the subpicture, and whether its messages aren't the source's."""
+    """Returns which of the numbers of its sets aren't those of the subpicture, and whether its messages aren't the source's."""
     sps, pps = picture["sps"], picture["sets"][fact["pps"]]
     pairs = {
         "size": ((sps["width"], sps["height"]), fact["sizes"][index]), "tiles": ((pps["columns"], pps["rows"]), fact["tiles"][index]),
@@ -61,7 +62,7 @@ def differs_around(picture, fact, index):
 
 
 def rule(fact, index):
-    """The rule on extraction that a picture breaks."""
+    """Returns the rule on extraction that a picture breaks, or None."""
     if index >= len(fact["subpictures"]):
         return "E2"
     if not fact["treated"][index]:
@@ -70,13 +71,13 @@ def rule(fact, index):
 
 
 class Trial:
-    """Extractions of one stream, and what isn't as it should be."""
+    """Extractions of one stream, and a list of what is wrong."""
 
     def __init__(self, program, path, folder, counts):
         self.program, self.path, self.folder, self.counts, self.wrong = program, path, folder, counts, []
 
     def extract(self, index, options):
-        """What is shown of an extraction, with the line and the status of it."""
+        """Extracts a subpicture, and returns what is shown of it, with the line and the status of the extraction."""
         part, *ending = run(self.program, "extract", *options, index, self.path)
         path = os.path.join(self.folder, "part")
         with open(path, "wb") as file:
@@ -139,7 +140,7 @@ class Trial:
 
 
 def trials(program, count, streams, counts):
-    """What isn't as it should be, stream by stream."""
+    """Returns what is wrong, stream by stream."""
     with tempfile.TemporaryDirectory() as folder:
         path = os.path.join(folder, "source")
         for seed in range(count):

@@ -1,5 +1,7 @@
-"""Parameter sets of H.266 read bit by bit, in the order of the syntax tables of clause 7.3: `Sps(rbsp)` and `Pps(rbsp)` have the items, each
-with the number of its field, and what these tell of pictures. The sets are well-formed, of one layer, and have no extension.
+"""Reads parameter sets of H.266 bit by bit, in the order of the syntax tables of clause 7.3.
+
+`Sps(rbsp)` and `Pps(rbsp)` have the items, each with the number of its field, and what they mean for pictures. The sets have to be
+well-formed, of one layer, and without an extension.
 """
 import pathlib
 import re
@@ -9,12 +11,12 @@ NUMBERS = {name: int(number) for number, name in re.findall(r"^\| (\d+) \| `(\w+
 
 
 def above(total, size):
-    """How many of a size make up a total, or more."""
+    """Returns how many parts of a size are needed for a total, rounded up."""
     return -(-total // size)
 
 
 def bits_below(count):
-    """How many bits a number below the count takes."""
+    """Returns how many bits a number below `count` takes."""
     return (count - 1).bit_length()
 
 
@@ -59,7 +61,7 @@ class Reader:
         assert self.take(-self.at % 8) == 0
 
     def end(self, extension):
-        """The flag of an extension, which there is none of, and the bits behind it."""
+        """Reads the flag of an extension, which has to be 0, and the trailing bits."""
         assert self.flag(extension) == 0
         assert self.bits[self.at:] == "1" + "0" * (len(self.bits) - self.at - 1) and len(self.bits) - self.at <= 8
 
@@ -106,7 +108,7 @@ class Sps(Reader):
         self.read_end()
 
     def read_profile(self):
-        """profile_tier_level()"""
+        """Reads profile_tier_level()."""
         self.u(7, "general_profile_idc")
         self.flag("general_tier_flag")
         self.u(8, "general_level_idc")
@@ -126,7 +128,7 @@ class Sps(Reader):
             self.u(32, "general_sub_profile_idc")
 
     def read_subpictures(self):
-        """From sps_subpic_info_present_flag to the ids."""
+        """Reads from sps_subpic_info_present_flag to the ids."""
         columns, rows = above(self.width, self.ctu), above(self.height, self.ctu)
         self.rects, self.treated, self.filtered, self.ids = [(0, 0, columns, rows)], [1], [0], [0]
         if not self.flag("sps_subpic_info_present_flag"):
@@ -140,7 +142,7 @@ class Sps(Reader):
             self.ids = [self.u(bits, "sps_subpic_id") for _ in range(count)]
 
     def read_rects(self, count, columns, rows):
-        """Where several subpictures stand, and how they are coded."""
+        """Reads the places of several subpictures, and how they are coded."""
         independent = self.flag("sps_independent_subpics_flag")
         same = self.flag("sps_subpic_same_size_flag")
         x_bits, y_bits, self.rects, self.treated, self.filtered = bits_below(columns), bits_below(rows), [], [], []
@@ -160,7 +162,7 @@ class Sps(Reader):
             self.filtered.append(0 if independent else self.flag("sps_loop_filter_across_subpic_enabled_flag"))
 
     def read_counts(self):
-        """From the bit depth to the DPB parameters."""
+        """Reads from the bit depth to the DPB parameters."""
         self.ue("sps_bitdepth_minus8")
         self.flag("sps_entropy_coding_sync_enabled_flag")
         self.flag("sps_entry_point_offsets_present_flag")
@@ -176,14 +178,14 @@ class Sps(Reader):
             self.ue("dpb_max_latency_increase_plus1")
 
     def read_tree(self, slices):
-        """How CTUs are split in slices of a kind."""
+        """Reads how CTUs are split in slices of a kind."""
         self.ue(f"sps_log2_diff_min_qt_min_cb_{slices}")
         if self.ue(f"sps_max_mtt_hierarchy_depth_{slices}"):
             self.ue(f"sps_log2_diff_max_bt_min_qt_{slices}")
             self.ue(f"sps_log2_diff_max_tt_min_qt_{slices}")
 
     def read_partitions(self):
-        """The limits of partitions."""
+        """Reads the limits of partitions."""
         self.ue("sps_log2_min_luma_coding_block_size_minus2")
         self.flag("sps_partition_constraints_override_enabled_flag")
         self.read_tree("intra_slice_luma")
@@ -192,7 +194,7 @@ class Sps(Reader):
         self.read_tree("inter_slice")
 
     def read_transforms(self):
-        """From the size of transforms to the LMCS."""
+        """Reads from the size of transforms to the LMCS."""
         if self.log2_ctu:
             self.flag("sps_max_luma_transform_size_64_flag")
         self.transform_skip = self.flag("sps_transform_skip_enabled_flag")
@@ -216,7 +218,7 @@ class Sps(Reader):
         self.flag("sps_lmcs_enabled_flag")
 
     def read_references(self):
-        """Weights, and the reference picture lists."""
+        """Reads the weights, and the reference picture lists."""
         self.weighted = self.flag("sps_weighted_pred_flag") | self.flag("sps_weighted_bipred_flag")
         self.long_term = self.flag("sps_long_term_ref_pics_flag")
         self.flag("sps_idr_rpl_present_flag")
@@ -225,7 +227,7 @@ class Sps(Reader):
         self.lists *= 3 - len(self.lists)
 
     def read_structure(self):
-        """ref_pic_list_struct(): where the lsbs of its long-term entries stand, and the entries."""
+        """Reads ref_pic_list_struct(): where the low bits of its long-term entries are, and the entries."""
         count = self.ue("num_ref_entries")
         in_header = self.flag("ltrp_in_header_flag") if self.long_term and count else 0
         entries = []
@@ -238,7 +240,7 @@ class Sps(Reader):
         return "h" if in_header else "o", entries
 
     def read_inter(self):
-        """From reference wraparound to the parallel merge level."""
+        """Reads from reference wraparound to the parallel merge level."""
         self.flag("sps_ref_wraparound_enabled_flag")
         if self.flag("sps_temporal_mvp_enabled_flag"):
             self.flag("sps_sbtmvp_enabled_flag")
@@ -266,7 +268,7 @@ class Sps(Reader):
         self.ue("sps_log2_parallel_merge_level_minus2")
 
     def read_intra(self):
-        """From intra tools to virtual boundaries."""
+        """Reads from intra tools to virtual boundaries."""
         for tool in ("isp", "mrl", "mip"):
             self.flag(f"sps_{tool}_enabled_flag")
         if self.chroma:
@@ -291,7 +293,7 @@ class Sps(Reader):
         self.flag("sps_virtual_boundaries_enabled_flag")
 
     def read_end(self):
-        """Timing, usability information, and the end."""
+        """Reads the timing, the usability information, and the end."""
         if self.flag("sps_timing_hrd_params_present_flag"):
             self.read_timing()
         self.flag("sps_field_seq_flag")
@@ -303,7 +305,7 @@ class Sps(Reader):
         self.end("sps_extension_flag")
 
     def read_timing(self):
-        """general_timing_hrd_parameters() and ols_timing_hrd_parameters()"""
+        """Reads general_timing_hrd_parameters() and ols_timing_hrd_parameters()."""
         self.u(32, "num_units_in_tick")
         self.u(32, "time_scale")
         kinds = self.flag("general_nal_hrd_params_present_flag") + self.flag("general_vcl_hrd_params_present_flag")
@@ -323,7 +325,7 @@ class Sps(Reader):
             self.read_sublayer(kinds, cpbs, units)
 
     def read_sublayer(self, kinds, cpbs, units):
-        """The timing of a sublayer."""
+        """Reads the timing of a sublayer."""
         if self.flag("fixed_pic_rate_general_flag") or self.flag("fixed_pic_rate_within_cvs_flag"):
             self.ue("elemental_duration_in_tc_minus1")
         elif kinds and cpbs == 1:
@@ -337,17 +339,17 @@ class Sps(Reader):
             self.flag("cbr_flag")
 
     def picture(self):
-        """Its pictures, and their subpictures."""
+        """Returns its pictures, and their subpictures, as text."""
         return (f"width={self.width} height={self.height} ctb={self.ctu} subpics={len(self.rects)} rects={rects_text(self.rects)}"
                 f" treated={numbers_text(self.treated)} filtered={numbers_text(self.filtered)}")
 
     def meaning(self):
-        """What it tells."""
+        """Returns what it means, as text."""
         lists = [";".join(place + ",".join(entries) for place, entries in structures) or "-" for structures in self.lists]
         return f"{self.picture()} lists={'|'.join(lists)}"
 
     def numbers(self):
-        """The numbers of a large set."""
+        """Returns the numbers of a large set, as text."""
         first, second = self.lists
         return (f"items={len(self.items)} lists={len(first)},{len(second)} extra={numbers_text(self.extra)} | {self.picture()}"
                 f" ids={numbers_text(self.ids)}")
@@ -381,14 +383,14 @@ class Pps(Reader):
         self.end("pps_extension_flag")
 
     def read_sizes(self, count, total, name):
-        """The bounds of tiles, of which so many sizes are told."""
+        """Reads `count` explicit tile sizes, and returns the bounds of the tiles."""
         sizes = [self.ue(name) + 1 for _ in range(count)]
         left = total - sum(sizes)
         sizes += [sizes[-1]] * (left // sizes[-1]) + [left % sizes[-1]] * (left % sizes[-1] > 0)
         return [sum(sizes[:k]) for k in range(len(sizes) + 1)]
 
     def read_partition(self):
-        """Tiles and slices."""
+        """Reads tiles and slices."""
         self.ctu = 32 << self.u(2, "pps_log2_ctu_size_minus5")
         columns, rows = self.ue("pps_num_exp_tile_columns_minus1") + 1, self.ue("pps_num_exp_tile_rows_minus1") + 1
         self.columns = self.read_sizes(columns, above(self.width, self.ctu), "pps_tile_column_width_minus1")
@@ -406,7 +408,7 @@ class Pps(Reader):
             self.flag("pps_loop_filter_across_slices_enabled_flag")
 
     def read_slices(self, count, deltas):
-        """The slice list (6.5.1), which tells of all slices but the last one."""
+        """Reads the slice list (6.5.1), which has all slices except the last one."""
         across, down, tile, high, self.slices = len(self.columns) - 1, len(self.rows) - 1, 0, 1, []
         while len(self.slices) < count:
             column, row, last, wide = tile % across, tile // across, len(self.slices) == count - 1, 1
@@ -436,7 +438,7 @@ class Pps(Reader):
                     tile += (high - 1) * across
 
     def read_heights(self, rows):
-        """The heights of the slices of a tile of so many rows of CTUs: the last one that is told holds for those behind it."""
+        """Reads the heights of the slices of a tile of `rows` rows of CTUs. The last explicit height applies to the slices after it."""
         told = self.ue("pps_num_exp_slices_in_tile")
         heights = [self.ue("pps_exp_slice_height_in_ctus_minus1") + 1 for _ in range(told)]
         left = rows - sum(heights)
@@ -444,7 +446,7 @@ class Pps(Reader):
         return heights + [size] * (left // size if size else 0) + [left % size] * (bool(size) and left % size > 0)
 
     def read_prediction(self):
-        """From CABAC to the offsets of the chroma QP."""
+        """Reads from CABAC to the offsets of the chroma QP."""
         self.flag("pps_cabac_init_present_flag")
         for _ in range(2):
             self.ue("pps_num_ref_idx_default_active_minus1")
@@ -470,7 +472,7 @@ class Pps(Reader):
                     self.se("pps_joint_cbcr_qp_offset_list")
 
     def read_filters(self):
-        """The deblocking filter, and what stands in picture headers."""
+        """Reads the deblocking filter, and flags for what is in picture headers."""
         if self.flag("pps_deblocking_filter_control_present_flag"):
             override = self.flag("pps_deblocking_filter_override_enabled_flag")
             disabled = self.flag("pps_deblocking_filter_disabled_flag")
@@ -490,7 +492,7 @@ class Pps(Reader):
         self.flag("pps_slice_header_extension_present_flag")
 
     def meaning(self):
-        """What it tells."""
+        """Returns what it means, as text."""
         if not self.partitioned:
             return "unpartitioned"
         slices = "none" if self.slices is None else rects_text(self.slices)

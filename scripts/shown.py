@@ -1,4 +1,4 @@
-"""The built program, run, and what its `show` tells of a file."""
+"""Runs the built program, and reads what its `show` prints of a file."""
 import json
 import subprocess
 
@@ -8,13 +8,13 @@ END, MESSAGES = (21, 22), 23
 
 
 def run(program, *words):
-    """The output, the line and the status of the program with these words."""
+    """Returns the output, the line and the status of the program with these arguments."""
     done = subprocess.run([program, *map(str, words)], capture_output=True)
     return done.stdout, done.stderr.decode(), done.returncode
 
 
 class Shown:
-    """What `show` tells of a file: its pictures, each with the bytes of its units, and how it ended."""
+    """What `show` prints of a file: its pictures, each with the bytes of its units, and how it ended."""
 
     def __init__(self, program, path):
         self.stream = open(path, "rb").read()
@@ -32,11 +32,11 @@ class Shown:
                 self.end_picture(line)
 
     def begin(self, ended):
-        """Begins with the units of a picture."""
+        """Begins a picture."""
         self.now = {"header": None, "slices": [], "ended": ended, "messages": None}
 
     def take(self, line):
-        """Takes a unit."""
+        """Takes a unit of the current picture."""
         found = self.stream[line["offset"]:line["offset"] + line["bytes"]]
         if line["type"] in SLICES:
             self.now["slices"].append(found)
@@ -49,7 +49,7 @@ class Shown:
             self.now["messages"] = found
 
     def end_picture(self, line):
-        """Ends a picture by its line."""
+        """Ends the current picture, given its line."""
         self.now.update(line=line, sps=self.sps, sets=dict(self.sets))
         self.pictures.append(self.now)
         self.begin(False)

@@ -1,4 +1,4 @@
-"""Small VVC byte streams (H.266, Annex B) by number: `Stream(seed)` has the bytes, and of each picture what it was written from.
+"""Small VVC byte streams (H.266, Annex B) by number: `Stream(seed)` has the bytes, and what each picture was written from.
 
 The bits are written here field by field, in the order of the syntax tables of clause 7.3, with names from the standard. A stream has up
 to three coded layer video sequences of up to five pictures each, with tiles, subpictures and slices that are drawn anew for a sequence;
@@ -20,7 +20,7 @@ B, P, I = 0, 1, 2
 
 
 def bits_for(count):
-    """How many bits a number below the count takes."""
+    """Returns how many bits a number below `count` takes."""
     return max(0, math.ceil(math.log2(count)))
 
 
@@ -59,7 +59,7 @@ class Writer:
         self.bits += [0] * (-len(self.bits) % 8)
 
     def closed(self):
-        """The bytes, with a one and zeros after the bits."""
+        """Returns the bytes, with a one and zeros after the bits."""
         self.bits.append(1)
         self.zeros()
         text = "".join(map(str, self.bits))
@@ -67,17 +67,17 @@ class Writer:
 
 
 def escaped(rbsp):
-    """The bytes with emulation prevention."""
+    """Returns the bytes with emulation prevention."""
     return re.sub(rb"\0\0(?=[\0-\3])", b"\0\0\3", rbsp)
 
 
 def unit(kind, tid, rbsp):
-    """A NAL unit of layer 0."""
+    """Returns a NAL unit of layer 0."""
     return bytes([0, kind << 3 | tid + 1]) + escaped(rbsp)
 
 
 def some_bytes(draw, most):
-    """Bytes that often ask for emulation prevention, of which the last is no zero."""
+    """Returns bytes that often need emulation prevention. The last byte isn't zero."""
     front = [draw.choice((0, 0, 0, 1, 2, 3, 255, draw.randrange(256))) for _ in range(draw.randrange(most))]
     return bytes(front + [draw.choice((1, 3, 128, draw.randint(1, 255)))])
 
@@ -86,13 +86,13 @@ def some_bytes(draw, most):
 
 
 def parts_of(draw, total, most):
-    """Numbers that make up the total."""
+    """Returns numbers that add up to the total."""
     cuts = sorted(draw.sample(range(1, total), draw.randrange(min(most, total))))
     return [b - a for a, b in zip([0] + cuts, cuts + [total])]
 
 
 def filled(explicit, total):
-    """What explicit sizes make up: the last one again while it fits, and then the rest."""
+    """Returns the sizes that explicit sizes give: the last one is repeated while it fits, and then comes the rest."""
     sizes, left = list(explicit), total - sum(explicit)
     while left:
         sizes.append(min(left, explicit[-1]))
@@ -101,13 +101,13 @@ def filled(explicit, total):
 
 
 def some_explicit(draw, sizes):
-    """Explicit sizes that make up these."""
+    """Returns explicit sizes that give these sizes."""
     fronts = [sizes[:n] for n in range(1, len(sizes) + 1)]
     return draw.choice([front for front in fronts if filled(front, sum(sizes)) == sizes])
 
 
 def split(draw, rect, chance):
-    """Rectangles that make up a rectangle of tiles, in an order in which what is left of one or above it comes before it."""
+    """Returns rectangles that make up a rectangle of tiles, in an order in which those left of one or above it come before it."""
     x, y, w, h = rect
     if w * h == 1 or draw.random() > chance:
         return [rect]
@@ -121,7 +121,7 @@ def split(draw, rect, chance):
 
 
 class Slices:
-    """Slices of one rectangle of tiles, or of one tile in parts of some rows of CTUs each, for the subpictures in turn."""
+    """Slices of one rectangle of tiles, or of one tile in parts of some rows of CTUs each, with the subpicture of each."""
 
     def __init__(self, rect, heights, subpics):
         self.rect, self.heights, self.subpics = rect, heights, subpics
@@ -144,11 +144,11 @@ class Layout:
             self.add_subpics(rect, heights)
 
     def samples(self, draw, ctus):
-        """So many samples that there are so many CTUs, of which the last may be cut."""
+        """Returns a number of samples that has this many CTUs, of which the last may be cut."""
         return (ctus - 1) * self.ctu + 8 * draw.choice((1, self.ctu // 16, self.ctu // 8, self.ctu // 8))
 
     def area(self, rect):
-        """A rectangle of tiles in CTUs."""
+        """Returns a rectangle of tiles in CTUs."""
         x, y, w, h = rect
         return (sum(self.columns[:x]), sum(self.rows[:y]), sum(self.columns[x:x + w]), sum(self.rows[y:y + h]))
 
@@ -159,7 +159,7 @@ class Layout:
             y += height
 
     def slices(self, draw):
-        """Slices of each subpicture."""
+        """Returns slices of each subpicture."""
         found = []
         for rect, heights, first in self.areas:
             if heights is not None:
@@ -173,19 +173,19 @@ class Layout:
         return found
 
     def size(self, k):
-        """The width and the height of a subpicture in samples."""
+        """Returns the width and the height of a subpicture in samples."""
         x, y, w, h = self.subpics[k]
         return (min(w * self.ctu, self.width - x * self.ctu), min(h * self.ctu, self.height - y * self.ctu))
 
     def tiles(self, k):
-        """How many tile columns and rows a subpicture has."""
+        """Returns how many tile columns and rows a subpicture has."""
         x, y, w, h = self.subpics[k]
         inner = [sum(1 for at in range(1, len(sizes)) if low < sum(sizes[:at]) < low + length)
                  for sizes, low, length in ((self.columns, x, w), (self.rows, y, h))]
         return (inner[0] + 1, inner[1] + 1)
 
     def is_uniform(self):
-        """Whether the subpictures stand as equal ones do, row by row."""
+        """Returns whether the subpictures are in the places of equal ones, row by row."""
         _, _, w, h = self.subpics[0]
         across = sum(self.columns) // w
         return all(rect == (k % across * w, k // across * h, w, h) for k, rect in enumerate(self.subpics))
@@ -195,7 +195,7 @@ class Layout:
 
 
 def write_ptl(w, sublayers):
-    """profile_tier_level()"""
+    """Writes profile_tier_level()."""
     w.some_u(7)
     w.flag()
     w.some_u(8)
@@ -213,7 +213,7 @@ def write_ptl(w, sublayers):
 
 
 def write_timing(w, s):
-    """general_timing_hrd_parameters() and ols_timing_hrd_parameters()"""
+    """Writes general_timing_hrd_parameters() and ols_timing_hrd_parameters()."""
     w.some_u(32)
     w.some_u(32)
     hrds = w.flag() + w.flag()
@@ -240,7 +240,7 @@ def write_timing(w, s):
 
 
 def write_tree(w, dual=False):
-    """Fields on how CTUs are split."""
+    """Writes the fields on how CTUs are split."""
     w.some_ue(2)
     if w.some_ue(3):
         w.some_ue(2)
@@ -248,7 +248,7 @@ def write_tree(w, dual=False):
 
 
 def write_subpics(w, s):
-    """The subpictures of an SPS."""
+    """Writes the subpictures of an SPS."""
     layout, count = s["layout"], len(s["layout"].subpics)
     s["info"] = w.u(1, 1 if count > 1 else w.draw.randrange(2))
     s["treated"], s["filtered"] = [1] * count, [0] * count
@@ -270,7 +270,7 @@ def write_subpics(w, s):
 
 
 def write_rects(w, s, independent, same):
-    """Where the subpictures stand, and how they are treated."""
+    """Writes the places of the subpictures, and how they are treated."""
     layout = s["layout"]
     last = len(layout.subpics) - 1
     across, down = bits_for(sum(layout.columns)), bits_for(sum(layout.rows))
@@ -287,7 +287,9 @@ def write_rects(w, s, independent, same):
 
 
 def write_structure(w, s, index, count):
-    """ref_pic_list_struct(); how many entries it has, whether each is of the long term, and whether their lsbs stand in headers."""
+    """Writes ref_pic_list_struct(), and returns how many entries it has, whether each is long-term, and whether their low bits are in
+    headers.
+    """
     entries = w.ue(w.draw.randint(1, 4))
     in_header = w.flag() if s["long_term"] and index < count else s["long_term"]
     long = []
@@ -304,7 +306,7 @@ def write_structure(w, s, index, count):
 
 
 def write_chroma_tables(w, s):
-    """The fields on chroma QP, and whether joint residuals are used."""
+    """Writes the fields on chroma QP, and returns whether joint residuals are used."""
     s["joint"] = w.flag() if s["chroma"] else 0
     if s["chroma"]:
         for _ in range(1 if w.flag() else 3 if s["joint"] else 2):
@@ -315,7 +317,7 @@ def write_chroma_tables(w, s):
 
 
 def write_sps(draw, number, layout):
-    """An SPS: its RBSP, and what is read of it later."""
+    """Writes an SPS, and returns its RBSP, and what is read of it later."""
     w, s = Writer(draw), {"id": number, "layout": layout, "qp": 0, "sublayers": draw.choice((0, 0, 1, 2, 3)), "chroma": draw.randrange(2)}
     w.u(4, number)
     w.u(4, 0)
@@ -342,7 +344,7 @@ def write_sps(draw, number, layout):
 
 
 def write_sps_numbers(w, s):
-    """From the bit depth to the DPB parameters."""
+    """Writes from the bit depth to the DPB parameters."""
     s["depth"] = w.some_ue(2)
     s["sync"] = w.flag()
     s["entry_points"] = w.flag()
@@ -359,7 +361,7 @@ def write_sps_numbers(w, s):
 
 
 def write_sps_tools(w, s):
-    """From the smallest coding blocks to the LMCS."""
+    """Writes from the smallest coding blocks to the LMCS."""
     w.some_ue(2)
     s["override"] = w.flag()
     write_tree(w)
@@ -384,7 +386,7 @@ def write_sps_tools(w, s):
 
 
 def write_sps_lists(w, s):
-    """The reference picture lists."""
+    """Writes the reference picture lists."""
     s["weighted"] = w.flag(0.3) | w.flag(0.3)
     s["long_term"] = w.flag(0.3)
     s["idr_lists"] = w.flag(0.3)
@@ -398,7 +400,7 @@ def write_sps_lists(w, s):
 
 
 def write_sps_inter(w, s):
-    """From reference wraparound to the parallel merge level."""
+    """Writes from reference wraparound to the parallel merge level."""
     w.flag()
     s["tmvp"] = w.flag()
     if s["tmvp"]:
@@ -425,7 +427,7 @@ def write_sps_inter(w, s):
 
 
 def write_sps_end(w, s):
-    """From intra tools to the end."""
+    """Writes from intra tools to the end."""
     for _ in range(6 if s["chroma"] else 3):
         w.flag()
     w.u(1, 0)
@@ -456,7 +458,7 @@ def write_sps_end(w, s):
 
 
 def write_slice_list(w, p, count):
-    """The slices of a PPS, of which there are several: those after others by the distance of their tiles, or without."""
+    """Writes the slice list of a PPS with several slices: with the tile of each by its distance from the one before, or without."""
     columns = len(p["layout"].columns)
     delta = 1 if not fits_without_delta(p, columns) else w.draw.randrange(2)
     if count > 2:
@@ -474,12 +476,12 @@ def write_slice_list(w, p, count):
 
 
 def tile_of(part, columns):
-    """The first tile of some slices."""
+    """Returns the first tile of some slices."""
     return part.rect[1] * columns + part.rect[0]
 
 
 def write_slice(w, p, part, delta):
-    """Fields of a slice, or of those of a tile."""
+    """Writes the fields of a slice, or of the slices of a tile."""
     x, y, width, height = part.rect
     if x != len(p["layout"].columns) - 1:
         w.ue(width - 1)
@@ -493,7 +495,7 @@ def write_slice(w, p, part, delta):
 
 
 def fits_without_delta(p, columns):
-    """Whether each slice begins at the tile after the slice before, and is as high as it where its height isn't told."""
+    """Returns whether each slice begins at the tile after the slice before, and has the same height if its height isn't coded."""
     rows, before, height_before = len(p["layout"].rows), None, 1
     for part in p["slices"]:
         x, y, width, height = part.rect
@@ -509,7 +511,7 @@ def fits_without_delta(p, columns):
 
 
 def write_partition(w, s, p):
-    """The tiles and the slices of a PPS."""
+    """Writes the tiles and the slices of a PPS."""
     layout = s["layout"]
     w.u(2, {32: 0, 64: 1, 128: 2}[layout.ctu])
     columns, rows = some_explicit(w.draw, layout.columns), some_explicit(w.draw, layout.rows)
@@ -532,7 +534,7 @@ def write_partition(w, s, p):
 
 
 def write_pps(draw, number, s):
-    """A PPS of an SPS: its RBSP, and what is read of it later."""
+    """Writes a PPS of an SPS, and returns its RBSP, and what is read of it later."""
     w, layout = Writer(draw), s["layout"]
     p = {"id": number, "layout": layout, "slices": layout.slices(draw)}
     alone = sum(len(part.subpics) for part in p["slices"]) == 1 and len(layout.columns) * len(layout.rows) == 1
@@ -558,7 +560,7 @@ def write_pps(draw, number, s):
 
 
 def write_pps_ids(w, s, p):
-    """The ids of subpictures, where they stand in the PPS, and then anew for each."""
+    """Writes the ids of subpictures, if they are in the PPS, with a new id for each."""
     p["ids"] = s["ids"]
     w.u(1, int(s["ids_in_pps"]))
     if s["ids_in_pps"]:
@@ -571,7 +573,7 @@ def write_pps_ids(w, s, p):
 
 
 def write_pps_numbers(w, s, p):
-    """From CABAC to the lists of chroma QP offsets."""
+    """Writes from CABAC to the lists of chroma QP offsets."""
     p["cabac_init"] = w.flag()
     p["active"] = [w.some_ue(3) + 1, w.some_ue(3) + 1]
     p["list1_index"] = w.flag()
@@ -594,7 +596,7 @@ def write_pps_numbers(w, s, p):
 
 
 def write_pps_filters(w, p):
-    """From the deblocking filter to extensions."""
+    """Writes from the deblocking filter to extensions."""
     p["deblocking_override"] = p["deblocking_disabled"] = p["deblocking_in_ph"] = 0
     if w.flag():
         p["deblocking_override"] = w.flag()
@@ -617,7 +619,7 @@ def write_pps_filters(w, p):
 
 
 def write_lists(w, s, p):
-    """ref_pic_lists(); how many entries each list has."""
+    """Writes ref_pic_lists(), and returns how many entries each list has."""
     lengths, index = [], 0
     for k, structures in enumerate(s["lists"]):
         count, told = len(structures), k == 0 or p["list1_index"]
@@ -641,7 +643,7 @@ def write_lists(w, s, p):
 
 
 def write_weights(w, s, p, lengths, active):
-    """pred_weight_table()"""
+    """Writes pred_weight_table()."""
     w.some_ue(7)
     if s["chroma"]:
         w.some_se(3)
@@ -659,7 +661,7 @@ def write_weights(w, s, p, lengths, active):
 
 
 def write_alf(w, s, state):
-    """The fields on the adaptive loop filter."""
+    """Writes the fields on the adaptive loop filter."""
     if not w.flag(0.7):
         return
     for _ in range(w.u(3, w.draw.randrange(5))):
@@ -674,7 +676,7 @@ def write_alf(w, s, state):
 
 
 def write_deblocking(w, p):
-    """The fields on the deblocking filter of a header."""
+    """Writes the fields on the deblocking filter of a header."""
     if w.flag():
         if p["deblocking_disabled"] or not w.flag():
             for _ in range(6 if p["chroma_tools"] else 2):
@@ -682,12 +684,12 @@ def write_deblocking(w, p):
 
 
 def write_extension(w):
-    """An extension of a header."""
+    """Writes an extension of a header."""
     w.some_u(8 * w.ue(w.draw.choice((0, 1, 5))))
 
 
 def write_picture_header(w, s, p, state, h):
-    """picture_header_structure() of a picture whose type and count are in h, to which the other numbers are added."""
+    """Writes picture_header_structure() of a picture whose type and count are in h, to which the other numbers are added."""
     rap = w.u(1, int(h["type"] in IRAP_OR_GDR))
     h["non_ref"] = w.flag(0.2)
     if rap:
@@ -718,7 +720,7 @@ def write_picture_header(w, s, p, state, h):
 
 
 def write_picture_tools(w, s, p, h):
-    """A picture header from partition constraints on."""
+    """Writes a picture header from partition constraints on."""
     override = w.flag() if s["override"] else 0
     if h["intra"]:
         for _ in range((2 if s["dual"] else 1) if override else 0):
@@ -749,7 +751,7 @@ def write_subdivisions(w, p):
 
 
 def write_picture_inter(w, s, p, h):
-    """What a picture header has for slices that aren't I slices."""
+    """Writes what a picture header has for slices that aren't I slices."""
     first, second = h["lists"]
     h["tmvp"] = w.flag() if s["tmvp"] else 0
     if h["tmvp"] and p["rpl_in_ph"]:
@@ -767,7 +769,7 @@ def write_picture_inter(w, s, p, h):
 
 
 def write_slice_header(w, s, p, state, h, place):
-    """slice_header() of a slice at its place: its subpicture, its address, how many the subpicture has, and its entry points."""
+    """Writes slice_header() of a slice at its place: its subpicture, its address, how many the subpicture has, and its entry points."""
     subpic, address, count, points = place
     if s["info"]:
         w.u(s["id_len"], p["ids"][subpic])
@@ -795,14 +797,14 @@ def write_slice_header(w, s, p, state, h, place):
 
 
 def slice_type(draw, h, reach, lists):
-    """A type that the header allows."""
+    """Returns a type that the header allows."""
     if not reach:
         return I
     return draw.choice([B, P] + ([I] if h["intra"] else []))
 
 
 def write_slice_inter(w, s, p, h, kind, lists):
-    """What a slice header has for a slice that isn't an I slice."""
+    """Writes what a slice header has for a slice that isn't an I slice."""
     if kind == I:
         return
     told = [True, kind == B]
@@ -826,7 +828,7 @@ def write_slice_inter(w, s, p, h, kind, lists):
 
 
 def write_slice_tools(w, s, p, h):
-    """A slice header from its QP on, without entry points."""
+    """Writes a slice header from its QP on, without entry points."""
     if not p["qp_in_ph"]:
         w.some_se(8)
     if p["slice_chroma"]:
@@ -884,13 +886,13 @@ class Stream:
             self.add_picture(at == 0)
 
     def add_dropped(self, chance):
-        """Perhaps writes a unit that readers drop."""
+        """Writes a unit that readers drop, or nothing."""
         if self.draw.random() < chance:
             kind = self.draw.choice((4, 11, 13, 20, 24, 25, 27, 28, 31))
             self.add(kind, self.draw.randrange(3), some_bytes(self.draw, 9))
 
     def body(self, kind):
-        """The id of an adaptation parameter set of the kind that has come; one is written where none has."""
+        """Returns the id of an adaptation parameter set of the kind that has come. Writes one if none has."""
         if not self.bodies[kind] or self.asked < 3 and self.draw.random() < 0.4:
             self.asked += 1
             self.needed.append((kind, self.draw.randrange(4 if kind == LMCS else 8)))
@@ -902,7 +904,7 @@ class Stream:
         self.add(unit_kind, tid, bytes([kind << 5 | number]) + some_bytes(self.draw, 12))
 
     def add_messages(self, tid):
-        """Perhaps writes units of messages, of which those of three types are carried."""
+        """Writes units of messages, of which those of three types are carried, or nothing."""
         draw = self.draw
         for _ in range(draw.choice((0, 0, 0, 1, 2))):
             rbsp = b""
@@ -915,21 +917,21 @@ class Stream:
             self.add(23, tid, rbsp + b"\x80")
 
     def type_of(self, first):
-        """The type of the next picture."""
+        """Returns the type of the next picture."""
         if not self.pictures or self.ended:
             return self.draw.choice(IRAP_OR_GDR)
         return self.draw.choice(IDR if first else (0, 0, 0, 0, 1, 2, 3, 9, 10))
 
     def tid_of(self, kind):
-        """Its TemporalId."""
+        """Returns its TemporalId."""
         return 0 if kind in IRAP_OR_GDR else self.draw.randint(0, self.sps[1]["sublayers"])
 
     def payload(self):
-        """The data of a slice."""
+        """Returns the data of a slice."""
         return some_bytes(self.draw, 30)
 
     def chosen_pps(self, tid):
-        """A PPS that has come, or that is written."""
+        """Returns a PPS that has come, or writes one."""
         number = self.draw.choice((0, 1, 63))
         if number not in self.pps or self.draw.random() < 0.3:
             rbsp, self.pps[number] = write_pps(self.draw, number, self.sps[1])
@@ -937,7 +939,7 @@ class Stream:
         return self.pps[number]
 
     def add_picture(self, first):
-        """Writes a picture, with sets before it that come again or anew."""
+        """Writes a picture, and before it sets that come again or are new."""
         draw, s = self.draw, self.sps[1]
         kind = self.type_of(first)
         tid = self.tid_of(kind)
@@ -959,7 +961,7 @@ class Stream:
         self.messages, self.ended = [], False
 
     def headers(self, s, p, h, places):
-        """The picture header, where it stands alone, and the slice headers."""
+        """Returns the picture header, if it is a unit of its own, and the slice headers."""
         alone = Writer(self.draw)
         write_picture_header(alone, s, p, self, h)
         found = [None if h["inside"] else alone.closed()]
@@ -988,7 +990,7 @@ class Stream:
             self.add_body(18, h["tid"], ALF, number)
 
     def facts(self, s, p, h, places):
-        """What is known of a picture that was written."""
+        """Returns what is known of a picture that was written."""
         layout = s["layout"]
         subpics = [[] for _ in layout.subpics]
         for (k, *_), written in zip(places, h["units"]):
@@ -1002,7 +1004,7 @@ class Stream:
         }
 
     def count(self, s, h):
-        """The picture order count (8.3.1)."""
+        """Returns the picture order count (8.3.1)."""
         lsbs, (lsb, msb) = 2 ** s["lsb_bits"], self.before
         if h["msb"] is not None:
             msb = h["msb"] * lsbs
@@ -1039,9 +1041,10 @@ class Tiled(Layout):
 
 
 class Steady(Stream):
-    """A stream of one sequence, an IDR picture and pictures of type 0 with TemporalId 0; of each the id of its PPS is named. Streams of
-    one number and one layout have the same sets and headers, but for a QP that is added to theirs. With a size slices have so many bytes
-    of data, each value equally often, and others in streams of another kind of data."""
+    """A stream of one sequence, an IDR picture and pictures of type 0 with TemporalId 0, with the id of the PPS of each given. Streams
+    of one number and one layout have the same sets and headers, except for a QP that is added to theirs. With a size, slices have
+    this many bytes of data, each value equally often, and others in streams of another kind of data.
+    """
 
     def __init__(self, seed, names, size=0, data=0, layout=None, qp=0):
         self.draw, self.bytes, self.pictures = random.Random(seed), b"", []
@@ -1078,9 +1081,10 @@ class Steady(Stream):
 
 
 class Sibling(Steady):
-    """One of the streams of a number that can be merged with one another. They have the same pictures, of all types and TemporalIds and
-    with ends of sequences between some; but each has data, messages, QPs and ids of its own. Every second one has some other filters: so
-    many that all of a picture's find ids."""
+    """One of the streams of a number that can be merged with one another. They have the same pictures, of all types and TemporalIds,
+    with ends of sequences between some. Each has data, messages, QPs and ids of its own. Every second one has some other filters,
+    few enough for all of a picture's to find ids.
+    """
 
     def __init__(self, seed, number):
         shared, own = random.Random(seed), random.Random(f"{seed} {number}")
@@ -1099,7 +1103,7 @@ class Sibling(Steady):
         super().add_picture(first)
 
     def add_messages(self, tid):
-        """Perhaps writes one that is carried."""
+        """Writes one that is carried, or nothing."""
         if self.draw.random() < 0.5:
             self.messages.append(b"\x90\x04" + self.data.randbytes(4))
             self.add(23, tid, self.messages[-1] + b"\x80")
@@ -1121,7 +1125,7 @@ class Sibling(Steady):
 
 
 def places_of(s, p):
-    """The places of the slices of a picture, in order: subpicture, address, how many the subpicture has, and entry points."""
+    """Returns the places of the slices of a picture, in order: subpicture, address, how many the subpicture has, and entry points."""
     slices = []
     for part in p["slices"]:
         rows = s["layout"].rows[part.rect[1]:part.rect[1] + part.rect[3]]

@@ -1,9 +1,9 @@
 #!/usr/bin/env python3
-"""Makes what pages show of the measurements of speed in docs/measured: docs/images/speed.svg, docs/generated/MEASURED.md, and the tables of docs/SPEED.md.
+"""Makes docs/images/speed.svg, docs/generated/MEASURED.md and the tables of docs/SPEED.md from the measurements in docs/measured.
 
     scripts/speed-chart.py [--check]
 
-With --check nothing is written, and the status is 1 if one of them is not what it would be. A table of docs/SPEED.md stands between
+With --check nothing is written, and the status is 1 if one of them is not what it would be. A table of docs/SPEED.md is between
 `<!-- table: NAME -->` and `<!-- end of table -->`. In a file of docs/measured the last row of a name counts. A name that ends in -cat,
 -check, -merge, -show or -memory belongs to the name before it: what is compared with it, or its peak memory.
 """
@@ -16,7 +16,7 @@ ROOT = pathlib.Path(__file__).resolve().parent.parent
 MEASURED = ROOT / "docs/measured"
 # What is compared with a measurement, by the end of its name.
 BESIDE = {"cat": "`cat`", "check": "`check merge`", "merge": "`merge`", "show": "`show`"}
-# Each measurement of speed.tsv: its script and what runs.
+# Each measurement of speed.tsv: its script and what it runs.
 DESCRIBED = {
     "show-units": ("bench-show.sh", "`show` of 256 MiB, units of 64 KiB with ordinary payload"),
     "show-zeros": ("bench-show.sh", "the same, with 00 00 at each third byte"),
@@ -78,7 +78,7 @@ SLICES = {"short": "about 30 bytes", "long": "16 KiB"}
 
 
 def rows(name):
-    """The last row of each name in a file."""
+    """Returns the last row of each name in a file."""
     path = MEASURED / f"{name}.tsv"
     columns, *lines = (line.split("\t") for line in path.read_text().splitlines())
     return {line[0]: dict(zip(columns, line)) for line in lines}
@@ -89,12 +89,12 @@ def value(row):
 
 
 def where(row):
-    """The commit, date and load of a row."""
+    """Returns the commit, date and load of a row."""
     return f"{row['commit']}, {row['date']}, {row['load']}"
 
 
 def throughput(speed):
-    """Commands over large files, beside `cat`."""
+    """Returns the table of commands over large files, compared with `cat`."""
     yield "| command | time | `cat` | memory | measured |"
     yield "|---|--:|--:|--:|---|"
     for name in ("merge-large", "extract-large", "verify-large", "show-units"):
@@ -102,7 +102,7 @@ def throughput(speed):
 
 
 def small_pictures(small):
-    """What a small picture costs."""
+    """Returns the table of what a small picture costs."""
     yield "| command | µs a picture | thousand instructions |"
     yield "|---|--:|--:|"
     for name, text in SMALL.items():
@@ -112,7 +112,7 @@ def small_pictures(small):
 
 
 def viewers(capacity):
-    """How many viewers a processor serves."""
+    """Returns the table of how many viewers a processor serves."""
     yield "| tiles | slices | µs a picture | viewers at 30 a second | at 60 | memory a viewer |"
     yield "|--:|---|--:|--:|--:|--:|"
     for slices, text in SLICES.items():
@@ -125,7 +125,7 @@ def viewers(capacity):
 
 
 def stack(found):
-    """The least stack."""
+    """Returns the least stack."""
     yield "| what runs | stack | measured |"
     yield "|---|--:|---|"
     for name, text in STACK.items():
@@ -133,7 +133,7 @@ def stack(found):
 
 
 def measured(speed, small, capacity, found):
-    """The page with all measurements."""
+    """Returns the page with all measurements."""
     yield "<!-- Made by scripts/speed-chart.py from docs/measured. Don't edit it. -->"
     yield "# All measurements of speed"
     yield ""
@@ -170,7 +170,7 @@ COLORS = {"long": "#b4540a", "short": "#1f5fa8", "64k": "#333333"}
 
 
 def at(sources, took):
-    """The place of a point."""
+    """Returns the place of a point."""
 
     def share(x, ends):
         return (math.log(x) - math.log(ends[0])) / (math.log(ends[1]) - math.log(ends[0]))
@@ -179,7 +179,7 @@ def at(sources, took):
 
 
 def chart(speed, capacity):
-    """The chart's lines."""
+    """Returns the lines of the chart."""
     yield f'<svg xmlns="http://www.w3.org/2000/svg" viewBox="0 0 {WIDE} {HIGH}" width="{WIDE}" height="{HIGH}" font-family="sans-serif" font-size="13" fill="#222222">'
     yield "<!-- Made by scripts/speed-chart.py from docs/measured. Don't edit it. -->"
     yield "<title>Processor time of a merged picture against the number of sources</title>"

@@ -1,4 +1,4 @@
-"""Byte streams and their units, worked by hand from the format (H.266 Annex B): lines of crates/vx_calls."""
+"""Lines of crates/vx_calls on byte streams and their units, worked by hand from the format (H.266 Annex B)."""
 from bit_calls import joined, listed, spelled, told, unit_told
 
 # 64 times 64 samples, 4:0:0, one picture: an SPS, a PPS and a slice.
@@ -10,7 +10,7 @@ STREAMS = [
     (b"", [], None),
     (bytes([0, 0, 0]), [], None),
     (GRAY, GRAY_UNITS, None),
-    # Zeros around the units belong to none.
+    # Zeros around the units belong to none of them.
     (bytes([0, 0, 0, 0, 0, 1, 0, 65, 128, 0, 0, 0, 0, 1, 0, 65, 5, 0, 0]), [(6, 3), (14, 3)], None),
     (bytes([0, 0, 1, 0, 65, 128, 0, 0, 1, 0, 66]), [(3, 3), (9, 2)], None),
     # A byte that is no start code.
@@ -37,9 +37,8 @@ STREAMS = [
 LIMIT = 2 ** 23
 FRONT = bytes([0, 0, 1, 0, 65])
 
-# A unit of 2^23 bytes and a few more, in the last bytes of which stands what may break a rule: the zeros before it, how many bytes more
-# than 2^23 stand before what is tried, that, the place in it of the byte that is refused, if one is, and the size of the pieces in which
-# the stream comes.
+# A unit of a little more than 2^23 bytes, with a violation in its last bytes: the zeros before the unit, how many bytes beyond 2^23
+# come before the last ones, these, the place in them of the byte that is refused, if one is, and the size of the pieces of the stream.
 TAILS = [
     (0, 1, bytes([7]), None, 65_536),
     (0, 0, bytes([0, 0, 2]), 2, 8_388_611),
@@ -54,7 +53,7 @@ EMULATIONS = [
     ([0, 0, 3, 4], 3), ([0, 0, 3, 0, 0, 3, 0, 0, 1], 8),
 ]
 
-# Bytes, their unit, and the place in it behind each of the bytes.
+# Bytes, their unit, and the place in it after each of the bytes.
 ESCAPED = [
     ([], [], []),
     ([5], [5], [1]),
@@ -72,30 +71,30 @@ HEADERS = [
     ("8079", "none"), ("0078", "none"), ("00", "none"),
 ]
 
-# The read of GRAY that fails, in pieces of 16 bytes, and how many units are seen before.
+# The read of GRAY that fails, in pieces of 16 bytes, and how many units are returned before.
 FAILING = [(0, 0), (1, 0), (2, 1), (3, 2), (4, 2)]
 
-# What comes before the last unit, and its length: its end lies on a read's end or beside it, or the unit comes in many reads.
+# What comes before the last unit, and its length: its end is at a read's end or near it, or the unit comes in many reads.
 LAST_UNITS = [
     (b"", 65_532), (b"", 65_533), (b"", 65_534), (b"", 200_000), (GRAY, 65_536), ((b"\0", 10_000_000), 100),
 ]
 
-# The lengths of units of which some are kept where they were read, and others are moved as room is made.
+# The lengths of units. Some are kept where they were read, and others are moved as room is made.
 LENGTHS = [100, 40_000, 3, 300_000, 7, 70_000, 1_000, 20]
 
 
 def long_unit(length):
-    """A unit of this length behind a start code, as parts."""
+    """Returns a unit of this length after a start code, as parts."""
     return FRONT, (b"\xff", length - 2)
 
 
 def stream_told(stream, units, ends):
-    """What is told of the units of a stream, and of its end as often as it is asked for."""
+    """Returns the expected output for the units of a stream, and for its end as often as it is asked for."""
     return " ".join([*(unit_told(stream, *unit) for unit in units), *ends])
 
 
 def end_of(refused):
-    """What is told of the end of a stream."""
+    """Returns the expected output for the end of a stream."""
     return "F{}@{}".format(*refused) if refused else "end"
 
 

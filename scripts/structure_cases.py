@@ -1,6 +1,8 @@
-"""Lines on sets and headers, with their answers, that no vector of a model has: sets of small streams, the ends of ranges, the largest sets,
-kept items, rewritten sets, and headers under sets that let their numbers reach these ends. They are worked by hand from the format. What
-an accepted set is read as is told by read_sets.py, and sets that are told by their fields are spelled in the order in which it reads them.
+"""Lines of crates/vx_vectors on sets and headers that no vector of a model has, with their expected output, worked by hand from the format.
+
+They have sets of small streams, the ends of ranges, the largest sets, kept items, rewritten sets, and headers under sets that let their
+numbers reach these ends. The items and the meaning of an accepted set come from read_sets.py. Sets that are given by their fields are
+written in the order in which it reads them.
 """
 from read_sets import NUMBERS, Pps, Reader, Sps
 from small_streams import Writer, escaped
@@ -12,8 +14,8 @@ SAME = " | written same"
 
 
 class Speller(Reader):
-    """Bits that are written in the order in which they are read: a field has its number by its name, those of a list in turn, or 0. The
-    places are those at which fields first begin.
+    """Writes bits in the order in which they are read. A field has the number given for its name, the numbers of a list one after
+    another, or 0. `places` has where each field first begins.
     """
 
     def begin(self, numbers):
@@ -44,11 +46,11 @@ class Speller(Reader):
 
 
 class SpelledSps(Speller, Sps):
-    """An SPS by its fields."""
+    """An SPS given by its fields."""
 
 
 class SpelledPps(Speller, Pps):
-    """A PPS by its fields."""
+    """A PPS given by its fields."""
 
 
 SPS_SIZE = ("sps_pic_width_max_in_luma_samples", "sps_pic_height_max_in_luma_samples")
@@ -58,37 +60,37 @@ GRAY = {"sps_log2_ctu_size_minus5": 1, "sps_ptl_dpb_hrd_params_present_flag": 1,
 
 
 def sps(width=64, height=64, **numbers):
-    """The RBSP of an SPS without tools, but for these numbers."""
+    """Returns the RBSP of an SPS without tools, except for these numbers."""
     return SpelledSps(GRAY | dict(zip(SPS_SIZE, (width, height))) | numbers).rbsp
 
 
 def pps(width=64, height=64, **numbers):
-    """The RBSP of a PPS."""
+    """Returns the RBSP of a PPS."""
     return SpelledPps(dict(zip(PPS_SIZE, (width, height))) | numbers).rbsp
 
 
 def whole(width=64, height=64, **numbers):
-    """A PPS without partition."""
+    """Returns a PPS without partition."""
     return pps(width, height, pps_no_pic_partition_flag=1, **numbers)
 
 
 def tiled(columns, rows, slices=1, **numbers):
-    """A PPS with tile columns and rows of these sizes, in CTUs of 64, and so many slices."""
+    """Returns a PPS with tile columns and rows of these sizes, in CTUs of 64, and `slices` slices."""
     return pps(64 * sum(columns), 64 * sum(rows), pps_log2_ctu_size_minus5=1, pps_num_exp_tile_columns_minus1=len(columns) - 1,
                pps_num_exp_tile_rows_minus1=len(rows) - 1, pps_tile_column_width_minus1=[size - 1 for size in columns],
                pps_tile_row_height_minus1=[size - 1 for size in rows], pps_rect_slice_flag=1, pps_num_slices_in_pic_minus1=slices - 1, **numbers)
 
 
 def unit(kind, rbsp):
-    """A line of a NAL unit of a type."""
+    """Returns a line with a NAL unit of a type."""
     return f"unit {(bytes([0, kind << 3 | 1]) + escaped(rbsp)).hex()}"
 
 
-# Answers.
+# Expected output.
 
 
 def outside(field, bit):
-    """The refusal of a field that begins at a bit: it has no such value."""
+    """Returns the refusal of a field that begins at a bit and has a value out of its range."""
     return f"refused Y field={field} bit={bit} cause=OutOfRange"
 
 
@@ -105,7 +107,7 @@ def limit(code):
 
 
 def set_lines(kind, rows):
-    """Lines of sets in hexadecimal, each with a refusal, or with none where it is accepted and written again."""
+    """Returns lines of sets in hexadecimal, each with its refusal. A set without one is accepted and written again."""
     for digits, answer in rows:
         if answer is None:
             found = {"sps": Sps, "pps": Pps}[kind](bytes.fromhex(digits))
@@ -115,7 +117,7 @@ def set_lines(kind, rows):
 
 # Sequence parameter sets.
 
-# That of a stream of one CTU, of two of its pictures side by side, and of the right one taken out again.
+# The SPS of a stream of one CTU, of two of its pictures side by side, and of the right one extracted again.
 ONE_SPS = "00030233800000820412003de00300608001"
 BESIDE_SPS = "00030233800000408105534007bc00600c100020"
 RIGHT_SPS = "00030233800000820417f001ef001803040008"
@@ -167,7 +169,7 @@ THOUSAND_SPS = "000102338000000a0200c85007d1800a003de00600c10002"
 
 
 def write_codes(w, *runs):
-    """Writes codes, as bits and a number, so many times each; a code without bits stands for zeros up to a byte boundary."""
+    """Writes codes, as bits and a number, `times` times each. A code without bits stands for zeros up to a byte boundary."""
     for times, *codes in runs:
         for bits, number in codes * times:
             w.u(bits, number) if bits else w.zeros()
@@ -179,8 +181,8 @@ ONE_BIT = (1, 1)
 
 
 def longest_sps():
-    """The longest SPS: all constraints and sub-profiles, 512 x 512 CTUs, 1,000 subpictures and ids, three chroma QP tables, 64 structures of
-    29 entries for each list, all tools, 64 CPBs for each of seven sublayers, and 1,024 bytes of usability information.
+    """Returns the longest SPS: all constraints and sub-profiles, 512 x 512 CTUs, 1,000 subpictures and ids, three chroma QP tables, 64
+    structures of 29 entries for each list, all tools, 64 CPBs for each of seven sublayers, and 1,024 bytes of usability information.
     """
     w = Writer(None)
     write_codes(
@@ -218,7 +220,7 @@ def longest_sps():
 
 
 def sps_ends():
-    """Numbers at their ends, and one beyond."""
+    """Returns numbers at their ends, and one beyond."""
     size = dict(zip(SPS_SIZE, (64, 64)))
     for name, number in (("sps_max_sublayers_minus1", 7), ("sps_log2_ctu_size_minus5", 3)):
         found = SpelledSps(GRAY | size | {name: number})
@@ -228,7 +230,7 @@ def sps_ends():
 
 
 def pps_ends():
-    """The longest id, and as many ids as there may be, before whose length the bits end."""
+    """Returns the longest id, and as many ids as there may be, whose bits end before their length."""
     mapped = {"pps_subpic_id_mapping_present_flag": 1}
     yield whole(**mapped, pps_subpic_id_len_minus1=15, pps_subpic_id=65535).hex(), None
     found = SpelledPps(dict(zip(PPS_SIZE, (64, 64))) | mapped | {"pps_num_subpics_minus1": 999, "pps_log2_ctu_size_minus5": 1})
@@ -238,7 +240,7 @@ def pps_ends():
 
 
 def number_lines():
-    """The numbers of the SPS with 1,000 subpictures, and of the longest one."""
+    """Returns lines on the numbers of the SPS with 1,000 subpictures, and of the longest one."""
     thousand, longest = Sps(bytes.fromhex(THOUSAND_SPS)), Sps(longest_sps())
     assert thousand.ids == list(range(1000)) and thousand.rects == [(i % 40, i // 40, 1, 1) for i in range(1000)]
     assert (len(longest.items), longest.width, longest.height, longest.ctu, longest.extra) == (22933, 16384, 16384, 32, [24, 24])
@@ -253,7 +255,8 @@ def number_lines():
 # Those of the three SPSs above.
 ONE_PPS, BESIDE_PPS, RIGHT_PPS = "0000410208984080", "0000204082057a530801", "00004102081f584008"
 
-# The fields that picture headers and slices read, of a set without tools; those that stand in picture headers are there though absent.
+# The fields that picture headers and slices read, of a set without tools. Fields that are in picture headers are included though
+# absent.
 KEPT = "kept 402=0 410=0 411=0 433=0 434=0 434=0 435=0 436=0 437=0 438=0 440=0 441=0 452=0 455=0 462=0 463=0 465=0 467=0 468=0 469=0"
 
 PPS_ROWS = [
@@ -285,7 +288,7 @@ PPS_ROWS = [
     ("0000080402020b544ea564", outside(431, 75)),
     ("0000080402020b544b64", outside(427, 69)),
     ("0000080402020b544db2", outside(428, 70)),
-    # more explicit slices than there are, one behind those that fill the tile, and one that leaves too many behind it
+    # more explicit slices than there are, one after those that fill the tile, and one that leaves too many after it
     ("0000101006020b463159", outside(429, 69)),
     ("0000101006020b46333590", outside(430, 77)),
     ("0000101006020b4632b2", outside(430, 72)),
@@ -301,7 +304,9 @@ PPS_ROWS = [
 
 
 def longest_pps():
-    """The longest slice list: 1,000 slices in 440 tiles of 25 times 20 CTUs of 32. The first 280 tiles have slices of 7, 7 and 6 rows."""
+    """Returns the longest slice list: 1,000 slices in 440 tiles of 25 times 20 CTUs of 32. The first 280 tiles have slices of 7, 7 and
+    6 rows.
+    """
     w = Writer(None)
     w.u(11, 0)
     w.ue(16000)
@@ -328,20 +333,22 @@ def longest_pps():
 
 
 def longest_rects():
-    """Its slices."""
+    """Returns its slices."""
     for tile in range(440):
         for y, height in ((0, 7), (7, 7), (14, 6)) if tile < 280 else ((0, 20),):
             yield tile % 20 * 25, tile // 20 * 20 + y, 25, height
 
 
 def each_tile():
-    """Columns of 4, 3, 3 and 2 CTUs, of which two are told, and two rows of 5, of which one is: eight tiles, and each is a slice."""
+    """Returns a PPS with columns of 4, 3, 3 and 2 CTUs, of which two are explicit, and two rows of 5, of which one is: eight tiles, and
+    each is a slice.
+    """
     return pps(12 * 64, 10 * 64, pps_log2_ctu_size_minus5=1, pps_num_exp_tile_columns_minus1=1, pps_tile_column_width_minus1=[3, 2],
                pps_tile_row_height_minus1=[4], pps_rect_slice_flag=1, pps_num_slices_in_pic_minus1=7)
 
 
 def pps_lines():
-    """Sets that are read and written, or refused, and kept items."""
+    """Returns lines on sets that are read and written, or refused, and on kept items."""
     yield from set_lines("pps", [*PPS_ROWS, *pps_ends()])
     for digits in (ONE_PPS, BESIDE_PPS):
         yield f"pps-kept {digits}", KEPT
@@ -353,17 +360,17 @@ def pps_lines():
     yield from set_lines("pps", [(longest_pps().hex(), None), (each_tile().hex(), None)])
 
 
-# Rewritten sets: a line has the set, and those that say what it is to say.
+# Rewritten sets: a line has the set, and those that say what it has to become.
 
-# With a window, sub-profiles, and DPB parameters of each sublayer; and what is sent for a part of its pictures.
+# With a window, sub-profiles, and DPB parameters of each sublayer; and the set that is written for a part of its pictures.
 WINDOW_SPS = "00211202c00002000000020000000280820874a980f4af40824022553cf630655da004"
 WINDOW_SENT = "00211202c0000080820874a980257a04120112a9e7b1832aed0020"
-# Three subpictures with their ids in the PPSs, timing and HRD parameters; and what is sent for one of them.
+# Three subpictures with their ids in the PPSs, timing and HRD parameters; and the set that is written for one of them.
 IDS_SPS = "000104034000c041020d49b98dcec094a7b91181235eebe26e02638a28c522880000000e9445a6171be0ba6284"
 IDS_SENT = "000104034000c08408352773b02529ee446048d7baf89b8098e28a3148a200000003a5116984417080"
 
-# A PPS with tools, of a picture of 64 times 64 that is partitioned: weights, the deblocking filter's offsets, and all that picture headers
-# can say. As that of a region with the id of its subpicture, and as that of two side by side.
+# A PPS with tools, of a picture of 64 times 64 that is partitioned: weights, the deblocking filter's offsets, and all that picture
+# headers can have. The same as that of a region with the id of its subpicture, and as that of two side by side.
 TOOLS, TOOLS_TAKEN_OUT, TOOLS_BESIDE = "04804102091f6f826d4fea", "190041020962025f6f826d4fea", "1900204082457e5df055a9e940"
 # The PPS of a picture of one CTU as that of a region of 128 times 64, with the id of its subpicture.
 WHOLE = "14c020408231012c2040"
@@ -372,7 +379,7 @@ IDS_IN_PPS = {"sps_subpic_info_present_flag": 1, "sps_subpic_id_len_minus1": 7, 
 
 
 def thousand_sps():
-    """The SPS for 1,000 pictures of one CTU, 250 beside one another."""
+    """Returns the SPS for 1,000 pictures of one CTU, 250 side by side."""
     corners = [(i % 250, i // 250) for i in range(1000)]
     return sps(250 * 64, 4 * 64, sps_subpic_info_present_flag=1, sps_num_subpics_minus1=999, sps_independent_subpics_flag=1,
                sps_subpic_ctu_top_left_x=[x for x, _ in corners[1:]], sps_subpic_ctu_top_left_y=[y for _, y in corners[1:]],
@@ -380,7 +387,7 @@ def thousand_sps():
 
 
 def sps_rewritten():
-    """SPSs for regions and frames, with what is written."""
+    """Returns lines on SPSs for regions and frames, with the set that is written."""
     for source, sent in [
         (ONE_SPS, BESIDE_SPS), (BESIDE_SPS, RIGHT_SPS), (WINDOW_SPS, WINDOW_SENT), (IDS_SPS, IDS_SENT), (ONE_SPS, thousand_sps().hex()),
     ]:
@@ -388,8 +395,8 @@ def sps_rewritten():
 
 
 def pps_rewritten():
-    """PPSs for regions and frames, with what is written: the bytes of the set that says what they are to say, where it has the tools of
-    the source and tells all its tiles.
+    """Returns lines on PPSs for regions and frames, with the set that is written. It has the bytes of the set that says what it has to
+    become, if that has the source's tools and makes all its tile sizes explicit.
     """
     pair, part = sps(128).hex(), sps(128, **IDS_IN_PPS).hex()
     assert part != pair and sps().hex() == ONE_SPS
@@ -398,7 +405,7 @@ def pps_rewritten():
         ("frame", TOOLS, pair, TOOLS_BESIDE),
         ("region", BESIDE_PPS, ONE_SPS, RIGHT_PPS),
         ("region", TOOLS, sps(**IDS_IN_PPS).hex(), TOOLS_TAKEN_OUT),
-        # of a source that isn't partitioned nothing is asked of tiles and slices
+        # for a source that isn't partitioned nothing is required of tiles and slices
         ("region", ONE_PPS, part, WHOLE),
     ]:
         yield f"pps-{kind} {source} {under} {sent}", f"reshaped {sent}"
@@ -406,7 +413,7 @@ def pps_rewritten():
 
 
 def slices_rewritten():
-    """Slice lists and tile sizes of frames, which are read back."""
+    """Returns lines on slice lists and tile sizes of frames, which are read back."""
     width, height = "pps_slice_width_in_tiles_minus1", "pps_slice_height_in_tiles_minus1"
     count, rows, delta = "pps_num_exp_slices_in_tile", "pps_exp_slice_height_in_ctus_minus1", "pps_tile_idx_delta_val"
     listed = {"pps_tile_idx_delta_present_flag": 1}
@@ -421,7 +428,7 @@ def slices_rewritten():
     cut = tiled([3], [2, 5, 4, 4], 7, **listed | {count: [0, 1, 2, 1], rows: [2, 0, 2, 1], delta: 1}).hex()
     frames.append((sps(192, 960), cut, cut, [(height, 0), (count, 0), (delta, 1), (height, 0), (count, 1), (rows, 2), (delta, 1), (height, 0),
                                              (count, 2), (rows, 0), (rows, 2), (delta, 1), (count, 1), (rows, 1)]))
-    # all sizes are told
+    # all sizes are explicit
     told = tiled([4, 3, 3, 2], [5, 5], 8, **listed | {delta: 1}).hex()
     column = "pps_tile_column_width_minus1"
     frames.append((sps(768, 640), each_tile().hex(), told, [(column, 3), (column, 2), (column, 2), (column, 1)]))
@@ -432,7 +439,8 @@ def slices_rewritten():
         yield line, answer
 
 
-# The sets of a merge of two sources, of which the first has its PPS with the id 2, and those of that source; and those of another merge.
+# The sets of a merge of two sources, of which the first has its PPS with the id 2, and those of that source; and those of another
+# merge.
 SCALED = ("5003fedfa1090d4c1fe6f7fa6e006002000000000000000203204138012037c93ea4d73adc94c4d60002000213ccada0d2c6d440", "0941902091f51e020368")
 SCALED_FRAME = ("0003fedf80000320307d5437002406f927d49ae75b92989ac0004000427995b41a58c0d440", "00019018246b4948f0101340")
 MAPPED = ("50cb0559c074235e020301f613ffe1c01510208eca15f17fc170108b2008bff8328c4600010000bfa464400040002f74000022547a8d500a9008",
@@ -442,7 +450,7 @@ MAPPED_FRAME = ("00cb05ffc00000c01510123e4aa819d942be2afe0b8084590045ffc19462300
 
 
 def headers_rewritten():
-    """Picture headers for frames, alone or inside a slice header, with what is written."""
+    """Returns lines on picture headers for frames, alone or inside a slice header, with what is written."""
     for kind, own, frame, header, sent in [
         # without tools, with the id 5
         ("inside", (ONE_SPS, ONE_PPS), (BESIDE_SPS, BESIDE_PPS), "c4185aa780", "8304"),
@@ -461,7 +469,7 @@ IDR_N_LP, SPS, PPS, PH = 8, 15, 16, 19
 
 
 def stream_lines(number, sps_rbsp, pps_rbsp, header=None):
-    """The lines of a stream with these sets, and a picture header that is told by its RBSP and its items."""
+    """Returns the lines of a stream with these sets, and a picture header that is given by its RBSP and its items."""
     yield f"stream {number}", f"stream {number}"
     yield unit(SPS, sps_rbsp), f"set ok{Sps(sps_rbsp).text()}{SAME}"
     yield unit(PPS, pps_rbsp), f"set ok{Pps(pps_rbsp).text()}{SAME}"
@@ -478,18 +486,18 @@ EXTRA_BITS = {"sps_poc_msb_cycle_flag": 1, "sps_poc_msb_cycle_len_minus1": 1, "s
 
 
 def coded(*pairs):
-    """Codes, each a number of bits, or None for ue(v), and a number; and the alignment."""
+    """Returns codes, each given by a number of bits, or None for ue(v), and a number; and the alignment."""
     w = Writer(None)
     for bits, number in pairs:
         w.ue(number) if bits is None else w.u(bits, number)
     return w.closed().hex()
 
 
-# The longest code of ue(v) has this number.
+# The number of the longest code of ue(v).
 MOST = 2**32 - 2
 TWO_LISTED = (4, 0b0011), (1, 1), (4, 0), (None, 2), (2, 0b10), (2, 0b10), (None, 0), (1, 1)
 
-# Sets, and picture headers with their items and the bit behind them, or with their refusal.
+# Sets, and picture headers with their items and the bit after them, or with their refusal.
 HEADER_ROWS = [
     (*ONE_SETS, [
         # a flag absent: ph_intra_slice_allowed_flag is 0, and an inter slice has ph_mvd_l1_zero_flag
@@ -500,10 +508,10 @@ HEADER_ROWS = [
         ("0000000000", unread(605, 3, "LongCode")),
         ("88", unread(606, 5, "Short")),
         ("-", unread(600, 0, "Short")),
-        # recovery as far away as a code can say
+        # recovery as far away as a code can express
         (coded((4, 0b1010), (1, 1), (4, 0), (None, MOST)), f"600=1 601=0 602=1 603=0 605=0 606=0 607={MOST} | lists=0,0 end=72"),
     ]),
-    # the deblocking filter is described as off
+    # the deblocking filter is off
     (sps(), tiled([1], [1], **DEBLOCKED), [
         ("8860", "600=1 601=0 602=0 603=0 605=0 606=0 646=1 647=1 | lists=0,0 end=11"),
     ]),
@@ -540,7 +548,7 @@ HEADER_ROWS = [
 
 
 def extended(length):
-    """A picture header with so many bytes of extension."""
+    """Returns a picture header with `length` bytes of extension."""
     w = Writer(None)
     w.u(9, 0b100010000)
     w.ue(length)
@@ -550,7 +558,7 @@ def extended(length):
 
 
 def header_lines(number):
-    """Picture headers."""
+    """Returns lines on picture headers."""
     for sps_rbsp, pps_rbsp, rows in HEADER_ROWS:
         yield from stream_lines(number, sps_rbsp, pps_rbsp)
         for digits, answer in rows:
@@ -563,7 +571,7 @@ def header_lines(number):
 
 
 def trail_header(inter=0, deltas=()):
-    """A picture header of type 0 with lists, of which list 0 has entries of these deltas: its RBSP, and its items."""
+    """Returns a picture header of type 0 with lists, whose list 0 has entries of these deltas: its RBSP, and its items."""
     w = Writer(None)
     w.u(2, 0)
     w.u(1 + inter, 3 * inter)
@@ -587,7 +595,7 @@ SEVERAL = tiled([1], [3], 3, **LISTS_IN_PH, pps_num_exp_slices_in_tile=1)
 
 
 def codes(*pairs):
-    """The bytes behind the first one: codes, and the alignment."""
+    """Returns the bytes after the first one: codes, and the alignment."""
     return "00" + coded(*pairs)
 
 
@@ -651,15 +659,15 @@ INSIDE_ROWS = [
     ("c01040", outside(605, 5)),
     # it is 63: its 13 bits, four of the order count and a flag of the slice are read, and the bits end in the QP
     ("c01000", unread(713, 23, "Short")),
-    # it is 0, and two of the four bits of the order count are there
+    # it is 0, and two of the four bits of the order count are present
     ("c4", unread(606, 6, "Short")),
-    # behind the QP of the slice comes no one
+    # after the QP of the slice comes no one bit
     ("c410", unread(735, 12, "BadAlignment")),
 ]
 
 
 def slice_lines(number):
-    """Slice headers."""
+    """Returns lines on slice headers."""
     for *sets, rows in SLICE_ROWS:
         yield from stream_lines(number, *sets)
         for kind, digits, address, answer in rows:
@@ -675,7 +683,7 @@ def slice_lines(number):
 
 
 def qp_lines(number):
-    """Pictures whose slice has the largest QP or the smallest one, of 8 and of 10 bits, and one beyond."""
+    """Returns lines on pictures whose slice has the largest QP or the smallest one, of 8 and of 10 bits, and one beyond."""
     header = "600=1 601=0 602=0 603=0 605=0 606=0"
     for bits_more, qp, delta in ((0, 63, 0), (0, 63, 1), (0, 0, 0), (0, 0, -1), (2, -12, 0), (2, -12, -1)):
         yield from stream_lines(number, sps(sps_bitdepth_minus8=bits_more), whole(pps_init_qp_minus26=qp - 26))
@@ -693,7 +701,7 @@ def qp_lines(number):
 
 
 def structure_lines():
-    """All lines, each with its answer."""
+    """Returns all lines on structures, each with its expected output."""
     yield from set_lines("sps", [*SPS_ROWS, *sps_ends()])
     yield from number_lines()
     yield from pps_lines()

@@ -1,10 +1,11 @@
-"""Structures that are coded by tables: lines of crates/vx_calls. Each structure is told here as its syntax, field by field, and is read
-and written by this script alone."""
+"""Lines of crates/vx_calls on structures that are coded by tables. Each structure is written here as its syntax, field by field, and is read
+and written by this script alone.
+"""
 from bit_calls import listed, told
 
 
 class Refused(Exception):
-    """Why a structure isn't read."""
+    """Says why a structure isn't read."""
 
 
 class Bits:
@@ -21,7 +22,7 @@ class Bits:
         return self.bits[self.at - count:self.at]
 
     def code(self, field):
-        """The number of ue(v) (H.266 9.2), and its place."""
+        """Reads ue(v) (H.266 9.2), and returns its number."""
         ahead = self.bits[self.at:]
         zeros = len(ahead) - len(ahead.lstrip("0"))
         if zeros >= 32:
@@ -32,7 +33,9 @@ class Bits:
         return int(ahead[:2 * zeros + 1], 2) - 1
 
     def field(self, field, coding, wanted=None, fault=None, star=False, direct=False):
-        """A field of a value that is wanted, and else a fault: `ue`, `se`, or a number of bits. One in direct style has no number."""
+        """Reads a field: `ue`, `se`, or a number of bits. A value that isn't in `wanted` is a fault. A field in direct style has no
+        number.
+        """
         start = self.at
         if coding == "ue":
             value = self.code(field)
@@ -51,11 +54,11 @@ class Bits:
         return value
 
     def fill(self, field):
-        """A field that is absent, and stands among the kept ones as 0."""
+        """Adds a field that is absent, and is 0 among the kept ones."""
         self.kept.append((field, 0))
 
     def gap(self, field, first, cause):
-        """Bits up to the byte boundary: this one, where one is wanted, and zeros."""
+        """Reads bits up to the byte boundary: `first`, if it isn't empty, and zeros."""
         if first and self.at == len(self.bits):
             raise Refused(f"Y{field}@{self.at}:Short")
         end = (self.at + len(first) + 7) // 8 * 8
@@ -141,7 +144,7 @@ def composite(bits):
 STRUCTURES = {"small": small, "ends": ends, "places": places, "ids": ids, "plain": plain, "turns": turns, "composite": composite}
 TABLES = ("small", "ends", "places", "ids", "plain")
 
-# What is read: the structure, the bytes, and why they are refused, worked by hand. None of it is taken from what is read above.
+# What is read: the structure, the bytes, and why they are refused, worked by hand. None of it comes from the reader above.
 READ = [
     ("small", "68929040", None),
     ("small", "689300", "P4"),
@@ -179,7 +182,7 @@ READ = [
     ("composite", "4990e0", "Y33@14:OutOfRange"),
 ]
 
-# What is written: the structure, the items, and the bytes with a one and zeros behind them, or none; worked by hand.
+# What is written: the structure, the items, and the bytes with a one and zeros after them, or none; worked by hand.
 WRITTEN = [
     ("small", "1=1 2=2 3=1 4=8 5=-2 5=2 9=1", "68929050"),
     ("small", "1=4", None),
@@ -200,7 +203,7 @@ KEPT = [
     ("composite", "30=2 31=9 32=1 33=3 33=1 34=3 35=0", "30=2 31=9 32=1 33=3 33=1 34=3"),
 ]
 
-# Other shares beside the fields of the two tables, and what they are put together to, if anything.
+# Other shares for the fields of the two tables, and the items that they are composed to, if any.
 SHOWN = "30=2 31=9 32=1 34=3 35=0"
 REWRITTEN = [
     ("33=0 33=6", "30=2 31=9 32=1 33=0 33=6 34=3 35=0"),
@@ -215,7 +218,7 @@ STARRED_TOO = [1, 2, 3, 4, 5, 6, 7, SUM]
 
 # The table or the tables, the given numbers, the shown ones, and whether the fields depend on these alone.
 DEPENDS = [
-    # behind blocks in blocks
+    # after blocks in blocks
     ("deep", [], [3], True),
     # all; the starred ones too; these from the scope; not given; no name
     ("mixed", [102], MIXED, True),
@@ -242,7 +245,7 @@ DEPENDS = [
     ("in-turns", [102], MIXED, False),
 ]
 
-# The same, and whether the shown ones are those without a star.
+# The same, and whether the shown fields are those without a star.
 STARS = [
     ("mixed", [102], MIXED, True),
     ("mixed", [102], [1, 3, SUM], False),
@@ -257,7 +260,7 @@ def items(found):
 
 
 def read(structure, data):
-    """The bits behind a structure that is read, and why it is refused, if it is."""
+    """Reads a structure, and returns the bits read and why it is refused, or None."""
     bits = Bits(data)
     try:
         STRUCTURES[structure](bits)

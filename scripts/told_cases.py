@@ -1,8 +1,7 @@
-"""Worked cases of `show`, of `extract` and of the checks: what is told of small streams, what is extracted of them, what they are refused
-for, and what comes of reads and writes that fail.
+"""Worked cases of `show`, `extract`, the checks and some merges: outputs, refusals, and reads and writes that fail.
 
-A stream that isn't put together by plain_streams.py stands here unit by unit in hexadecimal. It was made by an independent model, as was
-what is written of it; or it is one of these with a field or a few bytes changed.
+A stream that isn't made by plain_streams.py is given unit by unit in hexadecimal. It was made by an independent model, as was the output
+for it; or it is one of these with a field or a few bytes changed.
 """
 import structure_cases as spelled
 from case_lines import Expected, units
@@ -17,17 +16,17 @@ GRAY_SPS, GRAY_PPS, GRAY_SLICE = (unit.hex() for unit in units(A))
 
 
 def given(nal_units):
-    """A byte stream of units in hexadecimal."""
+    """Returns a byte stream of units in hexadecimal."""
     return stream(*map(bytes.fromhex, nal_units.split()))
 
 
 def say(cases, words, expected, *settings):
-    """A case whose line is taken a byte at a time."""
+    """Adds a case whose line is written a byte at a time."""
     cases.case(words, expected, *settings, *(("pieces err 1",) if expected.err else ()))
 
 
 def say_in_pieces(cases, words, expected, sizes=(WHOLE, BYTEWISE), settings=()):
-    """The same, with bytes that come in each of these ways."""
+    """Adds such a case with bytes that come in each of these ways."""
     for pieces in sizes:
         say(cases, words, expected, *pieces, *settings)
 
@@ -37,11 +36,13 @@ def not_understood(cases, *lines):
         say(cases, words, Expected(2, "words not understood"))
 
 
-# What `show` tells.
+# What `show` prints.
 
 
 def told(*parts):
-    """Lines: of a unit its place, its length, its type, and a TemporalId that isn't 0; what is no tuple is a line itself."""
+    """Returns lines. A tuple is the line of a unit: its place, its length, its type, and a TemporalId that isn't 0. Everything else is
+    a line itself.
+    """
     lines = []
     for part in parts:
         if isinstance(part, tuple):
@@ -73,7 +74,7 @@ BROKEN_LINES = told((3, 2, 20))
 
 
 def add_shown(cases):
-    """What `show` tells of whole streams, and of streams that are refused."""
+    """Adds what `show` prints of whole streams, and of streams that are refused."""
     cases.about("show: start codes of three bytes among zeros; what an encoder wrote; no units")
     among_zeros = bytes(4) + bytes.fromhex("000001 007900030233800000820412003de00300608001 000001 00810000410208984080 000000"
                                            "000001 0041c4185aa780 0000")
@@ -108,13 +109,15 @@ def add_shown(cases):
 
 
 def add_tables(cases, rows, sizes=(WHOLE, BYTEWISE)):
-    """What `show` tells of streams that come in such pieces."""
+    """Adds what `show` prints of streams that come in such pieces."""
     for source, lines, line in rows:
         say_in_pieces(cases, f"show {cases.name(source)}", refused(line, lines) if line else Expected(out=lines), sizes)
 
 
 def end_rows():
-    """A count, a length or a number at its end, and one beyond: what these are of, and streams, what is told of them, and their refusal."""
+    """Returns counts, lengths and numbers at their ends, and one beyond: what these are of, and streams, what is shown of them, and
+    their refusal.
+    """
     tall = told((4, 21, 15), sps_line(64, 128), (29, 10, 16), pps_line())
     other_sets = told((4, 22, 15), sps_line(), (30, 10, 16), pps_line())
     other_pps = told((4, 20, 15), sps_line(), (28, 11, 16), pps_line())
@@ -143,7 +146,7 @@ def end_rows():
 
 
 def add_ends(cases):
-    """A count, a length or a number at its end, and one beyond."""
+    """Adds counts, lengths and numbers at their ends, and one beyond."""
     for what, rows in end_rows():
         cases.about(f"show: {what}")
         add_tables(cases, rows)
@@ -156,7 +159,7 @@ def add_ends(cases):
 
 
 def add_long(cases):
-    """Units of many bytes."""
+    """Adds units of many bytes."""
     one = bytes.fromhex("000001 00a1")
     rows = [((one, (b"\x81", count)), told((3, count + 2, 20)), "") for count in (65_531, 65_530, 65_532, 199_998)]
     rows += [((one, (b"\x81", 65_529), one), told((3, 65_531, 20), (65_537, 2, 20)), ""),
@@ -168,17 +171,20 @@ def add_long(cases):
     add_tables(cases, rows, (WHOLE, ("pieces all 60 65537",)))
 
 
-# How long what is told of two pictures is, from so many of their bytes on: with the 00 00 00 or 00 00 01 that stands behind a unit.
+# The length of what is shown of two pictures, given how many of their bytes were read: with the 00 00 00 or 00 00 01 that follows a
+# unit.
 TWICE_LENGTHS = ((0, 0), (27, 100), (41, 193), (52, 296), (76, 397), (90, 490))
 
 
 def at(steps, count):
-    """What the last step has that isn't above the count."""
+    """Returns the values of the last step that isn't above the count."""
     return [step[1:] for step in steps if step[0] <= count][-1]
 
 
 def add_shown_faults(cases):
-    """Reads of `show` that fail, and writes to `out` and `err`."""
+    """Adds reads of `show` that fail, and writes to `err`. The tests of vx_app make each write to `out` fail once: as cases these would
+    be half a million digits.
+    """
     cases.about("show: a byte a read: the lines are written of the units whose end is seen before the read that fails")
     for source, reads in ((A, 50), (TWICE, 99)):
         words = f"show {cases.name(source)}"
@@ -205,7 +211,7 @@ def add_shown_faults(cases):
 
 # What is extracted.
 
-# A picture of 64 by 64 samples out of one of two subpictures: its SPS at the left and at the right, and its PPS.
+# A picture of 64 by 64 samples extracted from two subpictures: its SPS at the left and at the right, and its PPS.
 LEFT_SPS, RIGHT_SPS = "007900030233800000820417d001ef001803040008", "007900030233800000820417f001ef001803040008"
 PART_PPS, PART_PH = "008100004102081f584008", "00998840"
 LEFT = given(f"{LEFT_SPS} {PART_PPS} {PART_PH} 0041185aa780")
@@ -214,7 +220,7 @@ HIGHER = stream(sps(64, 64), pps(64, 64), slice_unit(I0, tid=1, inside=True))
 
 
 def add_extracted(cases):
-    """Subpictures that are extracted, and those that aren't."""
+    """Adds subpictures that are extracted, and those that aren't."""
 
     def extracted(words, source, out):
         say_in_pieces(cases, f"extract {words} {cases.name(source)}", Expected(out=out))
@@ -269,7 +275,7 @@ def add_extracted(cases):
 
 
 def add_checked(cases):
-    """Whether a subpicture can be extracted."""
+    """Adds whether a subpicture can be extracted."""
     cases.about("check extract")
     for words, source, pictures in (("0", A, 1), ("1", M, 1), ("0", TWICE, 2)):
         say(cases, f"check extract {words} {cases.name(source)}", Expected(out=b"ok pictures %d\n" % pictures))
@@ -279,8 +285,8 @@ def add_checked(cases):
     say(cases, f"check extract 0 {cases.name(A)}", failed("read fault source 0"), "fail 0 0")
 
 
-# What the first bytes of two pictures side by side are refused for, from so many of them on: nothing, where the payload of the right
-# slice alone is cut. Of a field its number and its bit.
+# What the first bytes of two pictures side by side are refused for, by the number of bytes from which on it applies. It is nothing if
+# only the payload of the right slice is cut. A field has its number and its bit.
 CUTS = ((0, "E1 picture 0"), (4, "F3 source 0 byte 4"),
         (6, 100, 0), (8, 11, 16), (9, 13, 24), (10, 14, 32), (11, 22, 40), (14, 109, 50), (15, 110, 65), (16, 117, 80), (17, 127, 88),
         (18, 134, 96), (19, 141, 104), (20, 160, 112), (22, 187, 128), (23, 193, 136), (24, 212, 144),
@@ -294,22 +300,22 @@ CUTS = ((0, "E1 picture 0"), (4, "F3 source 0 byte 4"),
         (66, 700, 0), (67, "S11 source 0 unit 4"),
         (68, ""))
 
-# How many of these bytes stand in front of a unit.
+# How many units are complete, by the number of bytes from which on it applies.
 STARTS = ((0, 0), (30, 1), (46, 2), (54, 3), (64, 4))
 
-# How many bytes of what is told of the first three units is told of so many bytes.
+# The length of what is shown of the first three units, by the number of bytes from which on it applies.
 PAIR_LENGTHS = ((0, 0), (26, 101), (42, 194), (50, 236))
 
 
 def cut_line(count):
-    """What the first bytes are refused for."""
+    """Returns what the first bytes are refused for."""
     what, *bit = at(CUTS, count)
     unit, = at(STARTS, count)
     return f"Y source 0 unit {unit} field {what} bit {bit[0]} Short" if bit else what
 
 
 def add_cut(cases):
-    """Two pictures side by side, of which the first bytes come alone."""
+    """Adds the first bytes of two pictures side by side, for each number of bytes."""
     cases.about("extract: a picture that is cut anywhere")
     for count in range(len(M) + 1):
         line = cut_line(count)
@@ -328,7 +334,7 @@ def add_cut(cases):
 
 
 def add_extracted_faults(cases):
-    """Reads and writes of `extract` that fail."""
+    """Adds reads and writes of `extract` that fail."""
     name = cases.name(TWICE)
     cases.about("extract: a byte a read: the pictures are written whose end is seen before the read that fails")
     for call in range(99):
@@ -349,7 +355,7 @@ def add_extracted_faults(cases):
 
 
 def checked(cases, corners, sources, line=None, pictures=1, sizes=(WHOLE, BYTEWISE)):
-    """The check of a merge, in which a source that is no bytes can't be read."""
+    """Adds the check of a merge. A source that is None can't be read."""
     words = f"check merge {cases.placed(corners, [source or EMPTY for source in sources])}"
     closed = [f"closed {k}" for k, source in enumerate(sources) if source is None]
     expected = refused(line) if line else Expected(out=b"ok pictures %d\n" % pictures)
@@ -357,12 +363,12 @@ def checked(cases, corners, sources, line=None, pictures=1, sizes=(WHOLE, BYTEWI
 
 
 def gray_with(sps=GRAY_SPS, pps=GRAY_PPS, slice=GRAY_SLICE):
-    """The picture with another unit."""
+    """Returns the picture with another unit."""
     return given(f"{sps} {pps} {slice}")
 
 
 def add_rules(cases):
-    """Each rule is broken alone, by a field or a few bytes."""
+    """Adds merges that each break one rule, by a field or a few bytes."""
     cases.about("check merge: 9 bits; another profile; two tables of CABAC; not referred to; what isn't put out; other kinds")
     deeper = gray_with(sps="007900030233800000820411000f7800c018200040")
     checked(cases, BESIDE, (A, gray(level=99)))
@@ -390,7 +396,7 @@ def add_rules(cases):
 
 
 def add_bytewise(cases):
-    """What the other worked cases have of regions, a byte a read."""
+    """Adds what the other worked cases have of regions, a byte a read."""
     cases.about("check merge: regions, a byte a read")
     tall = gray(height=128)
     narrow, wide = gray(width=1280, height=128, ctu=128), gray(width=1288, height=128, ctu=128)
@@ -407,7 +413,9 @@ def add_bytewise(cases):
 
 
 def far_motion(entry, cycles):
-    """Two pictures, of which the second takes motion from an entry of a list of long-term pictures with these cycles and low bits 0."""
+    """Returns two pictures, of which the second takes motion from an entry of a list of long-term pictures with these cycles and low
+    bits 0.
+    """
     w = Writer(None)
     # the picture header inside, of an inter picture, with the PPS 0 and the count 1, and motion
     for bits, value in ((1, 1), (5, 0b00111), (4, 1), (2, 0b10)):
@@ -429,7 +437,7 @@ def far_motion(entry, cycles):
 
 
 def add_bodies(cases):
-    """What slices use beside the sets."""
+    """Adds what slices use besides the sets."""
     cases.about("check merge: LMCS and scaling lists in slices with a picture header inside")
     chroma = Tools(lmcs=1, chroma=1)
     unmapped, mapped = lmcs_source(None, 0, chroma, inside=True), lmcs_source(b"\x51\x80", 3, chroma, inside=True)
@@ -467,7 +475,7 @@ def add_bodies(cases):
 
 
 def add_sources(cases):
-    """Sources without pictures, that break a rule, or that can't be read."""
+    """Adds sources without pictures, that break a rule, or that can't be read."""
     broken = bytes.fromhex("000001 8079")
     cases.about("check merge: sources without units; another QP; a name with an equals sign, and one with a comma")
     checked(cases, BESIDE, (EMPTY, bytes(2)), pictures=0)
@@ -499,7 +507,7 @@ def add_sources(cases):
 
 
 def add_written(cases):
-    """Two sources side by side that are merged, a byte a write."""
+    """Adds two sources side by side that are merged, a byte a write."""
     cases.about("merge: a byte a write")
     other_qp = stream(*units(M)[:4], bytes.fromhex("004142605aa780"))
     escaped = bytes.fromhex("0000030180")
@@ -517,7 +525,7 @@ def add_written(cases):
 
 
 def add_other_words(cases):
-    """What the program tells of itself, and words that are no command."""
+    """Adds what the program prints of itself, and arguments that are no command."""
     cases.about("what the program tells of itself; behind `show` it is a file's name")
     version = b"goosequince 0.2.0\n"
     cases.case("--version", Expected(out=version), "pieces out 1")

@@ -1,12 +1,13 @@
-"""Cases of `trial`: the lines of an independent model, words in their ranges and out of them, and writes that fail."""
+"""Cases of `trial`: the lines of an independent model, arguments in their ranges and out of them, and writes that fail."""
 from case_lines import Expected
 from told_cases import not_understood, say
 from worked_cases import failed
 
 
 def add_trials(cases, path):
-    """The lines `SEED SOURCES PICTURES | LINE` of an independent model, its lines `generate SEED SOURCES PICTURES source K BYTES`, and what
-    is understood."""
+    """Adds the lines of a file of an independent model, `SEED SOURCES PICTURES | LINE` and `generate SEED SOURCES PICTURES source K
+    BYTES`, and arguments.
+    """
     told = dict(line.strip().split(" | ") for line in open(path) if " | " in line)
     cases.about("trial: lines of an independent model, twice each, and a byte a write")
     for numbers, line in told.items():

@@ -1,5 +1,5 @@
-"""Cases of `verify merge`: worked ones, those of an independent model, and real streams. Each merge of case_lines.py that has pictures is
-verified with its sources beside these.
+"""Cases of `verify merge`: worked ones, those of an independent model, and real streams. Besides these, each merge of case_lines.py that has
+pictures is verified with its sources.
 """
 import re
 
@@ -10,23 +10,23 @@ from worked_cases import (A, B, BESIDE, EMPTY, I0, M, WITH_ALF, alf_pair, alf_sl
                           refused, right, wall)
 
 BROKEN = bytes.fromhex("000001 8079")
-# The first unit of a source whose header has a forbidden bit: its byte behind the picture A.
+# The byte of a forbidden bit in the header of the first unit after picture A.
 BROKEN_BYTE = len(A) + 3
 
 
 def verified(pictures=1):
-    """The line where all rounds are verified."""
+    """Returns the line that is printed if all rounds are verified."""
     return Expected(out=b"yes pictures %d\n" % pictures)
 
 
 def compared(cases, finished, corners, sources, line=None, pictures=1, settings=(), sizes=(WHOLE, BYTEWISE)):
-    """A finished stream beside its sources."""
+    """Adds a finished stream and its sources."""
     words = f"verify merge {cases.name(finished)} {cases.placed(corners, sources)}"
     say_in_pieces(cases, words, refused(line) if line else verified(pictures), sizes, settings)
 
 
 def add_compared(cases):
-    """Two pictures side by side, and what differs."""
+    """Adds two pictures side by side, and what differs."""
     cases.about("verify: two sources; another QP; another place; two pictures in a source; a picture that is its only subpicture; one source less")
     compared(cases, M, BESIDE, (A, A))
     compared(cases, M, BESIDE, (A, B), "C4 picture 0 source 2 slice 0 part 10 field 0")
@@ -57,7 +57,7 @@ def add_compared(cases):
 
 
 def add_late_filters(cases):
-    """Bodies of the adaptive loop filter that come one picture late."""
+    """Adds bodies of the adaptive loop filter that come one picture late."""
     cases.about("verify: bodies of the adaptive loop filter that are sent behind the picture that needs them, and in time")
     a, b = [bytes([0xA0 + k]) for k in range(9)], [b"\0\0\1" + bytes([0xB0 + k]) for k in range(4)]
     one, other = filter_source(a, b)
@@ -72,7 +72,7 @@ def add_late_filters(cases):
 
 
 def add_orders(cases):
-    """What is told of several things that differ."""
+    """Adds which of several differences is reported."""
     cases.about("verify: what breaks a rule in a round comes first, whichever file; then a difference in length; then what differs in the round")
     compared(cases, A, BESIDE, (A, BROKEN), "F3 source 2 byte 3")
     compared(cases, M, BESIDE, (A, A + BROKEN), f"F3 source 2 byte {BROKEN_BYTE}")
@@ -88,7 +88,7 @@ def add_orders(cases):
 
 
 def add_many(cases):
-    """As many sources as there may be, and one more."""
+    """Adds as many sources as there may be, and one more."""
     cases.about("verify: 65 sources, of which no file is read; and 64, with the finished stream 65 files")
     corners = [f"{64 * (k % 8)},{64 * (k // 8)}" for k in range(65)]
     compared(cases, wall(), corners, [A] * 65, "L4", settings=("fail all 0",), sizes=(WHOLE,))
@@ -99,14 +99,14 @@ def add_many(cases):
 
 
 def add_unread(cases):
-    """Files that can't be read, and each read failing once."""
+    """Adds files that can't be read, and each read failing once."""
     cases.about("verify: a file that can't be read; each read fails once: 60 bytes a read, and of the finished stream a byte")
     words = f"verify merge {cases.name(M + M)} {cases.placed(BESIDE, (TWICE, TWICE))}"
     lengths = [len(source) for source in (M + M, TWICE, TWICE)]
     for k, length in enumerate(lengths):
         fault = failed(f"read fault source {k}")
         say(cases, words, fault, f"closed {k}")
-        # The read behind the last byte is one more.
+        # There is one more read after the last byte.
         reads = -(-length // 60) + 1
         for call in range(reads):
             say(cases, words, fault, *SIXTY, f"fail {k} {call}")
@@ -128,7 +128,7 @@ def add_unread(cases):
 
 
 def add_words(cases):
-    """Words."""
+    """Adds arguments."""
     cases.about("words of verify merge: the finished stream may have any name; and those that aren't understood")
     cases.named("64,0=m", M)
     say(cases, f"verify merge 64,0=m {cases.placed(BESIDE, (A, A))}", verified())
@@ -141,7 +141,7 @@ def add_words(cases):
 
 
 def add_model_compared(cases, path):
-    """What an independent model verifies: finished streams beside their sources, whole and changed."""
+    """Adds what an independent model verifies: finished streams and their sources, whole and changed."""
     for line in open(path):
         words = line.split()
         if words[:1] == ["case"]:
@@ -158,7 +158,7 @@ def add_model_compared(cases, path):
 
 
 def slice_count(source):
-    """How many slices the first picture of a stream has."""
+    """Returns how many slices the first picture of a stream has."""
     count = 0
     for nal_unit in units(source):
         kind = nal_unit[1] >> 3
@@ -170,15 +170,17 @@ def slice_count(source):
     return count
 
 
-# What differs first where two sources of a real family are exchanged, at the corners that they had: the filters' bodies, the QP of both PPSs
-# (the slices have the same delta), or the number of slices.
+# What differs first if two sources of a real family are exchanged, at the corners that they had: the filters' bodies, the QP of both
+# PPSs (the slices have the same delta), or the number of slices.
 EXCHANGED = {"alf": "C4 picture 0 source 1 slice 0 part 6 field 0", "gray2": "C4 picture 0 source 1 slice 0 part 10 field 0",
              "gray4": "C4 picture 0 source 1 slice 0 part 10 field 0", "ldp": "C4 picture 0 source 1 slice 0 part 10 field 0",
              "tiles": "C3 picture 0 source 1"}
 
 
 def add_family_compared(cases, family, merged, corners, sources, others, difference):
-    """A real stream beside its sources: with two of them exchanged, with one of another family, and with a bit of its slice data changed."""
+    """Adds a real stream and its sources: with two of them exchanged, with one of another family, and with a bit of its slice data
+    changed.
+    """
     cases.about(f"verify: real streams: {family}")
     compared(cases, merged, corners, [sources[1], sources[0], *sources[2:]], EXCHANGED[family])
     last = len(sources)

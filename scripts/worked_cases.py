@@ -1,6 +1,4 @@
-"""Worked cases: small streams, and what they are merged to, put together field by field by the syntax tables and the rules for what is
-written.
-"""
+"""Worked cases of merges: small streams and their merges, written field by field by the syntax tables and the rules for what is written."""
 from case_lines import Expected
 from plain_streams import (ALF, CRA, EOB, EOS, LMCS, PAYLOAD, SCALING, SEI, TRAIL, Header, Tools, aps, partition, ph, pps, slice_unit, sps,
                            stream, unit)
@@ -21,7 +19,7 @@ def failed(line, out=b""):
 
 
 def gray(qp=26, width=64, height=64, ctu=64, payload=PAYLOAD, **numbers):
-    """A picture in one slice."""
+    """Returns a picture in one slice."""
     return stream(sps(width, height, ctu, **numbers), pps(width, height, qp=qp), slice_unit(Header(), inside=True, payload=payload))
 
 
@@ -29,7 +27,7 @@ A, B = gray(), gray(qp=22)
 
 
 def pair_sets(qp=26, number=0, tid=0, tools=Tools(), **numbers):
-    """The sets of two pictures of 64 by 64 samples side by side."""
+    """Returns the sets of two pictures of 64 by 64 samples side by side."""
     return pair_sps(tools, **numbers), pair_pps(qp, number, tid)
 
 
@@ -55,7 +53,7 @@ EOS_UNIT = stream(b"\0\xa9")
 
 
 def add_pairs(cases):
-    """Two pictures side by side."""
+    """Adds two pictures side by side."""
     cases.about("two sources side by side: nothing; the same picture; another QP; slice data with an emulation prevention byte")
     cases.merged(BESIDE, (EMPTY, EMPTY), Expected())
     cases.merged(BESIDE, (A, A), Expected(out=M))
@@ -81,7 +79,7 @@ def add_pairs(cases):
 
 
 def add_regions(cases):
-    """Where sources may stand."""
+    """Adds places of sources."""
     cases.about("corners off the CTUs, gaps, overlaps, and regions in another order")
     cases.merged(("0,0", "32,0"), (A, A), refused("M3 picture 0 source 1"))
     cases.merged(("0,0", "128,0"), (A, A), refused("M3 picture 0 source 0"))
@@ -103,11 +101,12 @@ def add_regions(cases):
 
 
 def add_four(cases):
-    """Four regions of 10 by 5 CTUs."""
+    """Adds four regions of 10 by 5 CTUs."""
     cases.about("four sources of 1280 by 640 samples at two QPs")
     low, high = (gray(qp=qp, width=1280, height=640, ctu=128) for qp in (22, 37))
     subpics = [(0, 0, 10, 5), (10, 0, 10, 5), (0, 5, 10, 5), (10, 5, 10, 5)]
-    # The first tile is neither in the last column nor in the last row, the second one is in the last column, the third one in the last row.
+    # The first tile is neither in the last column nor in the last row, the second one is in the last column, the third one in the last
+    # row.
     listed = [("u", 1),
               ("ue", 0), ("ue", 0), ("ue", 0), ("se", 1),
               ("ue", 0), ("ue", 0), ("se", 1),
@@ -120,7 +119,7 @@ def add_four(cases):
 
 
 def add_dropped_lines(cases):
-    """Regions that are rows of one tile."""
+    """Adds regions that are rows of one tile."""
     cases.about("two sources below one another beside a tall one: the line between them is dropped")
     tall, low = gray(height=128), A
     listed = [("u", 1), ("ue", 0), ("ue", 0), ("se", 1), ("ue", 1), ("ue", 0)]
@@ -144,7 +143,7 @@ WITH_ALF, WITH_LMCS, WITH_SCALING = Tools(alf=1), Tools(lmcs=1), Tools(scaling=1
 
 
 def add_filters(cases):
-    """Four bodies of the adaptive loop filter for a slice, over several rounds."""
+    """Adds four bodies of the adaptive loop filter for a slice, over several rounds."""
     a, b = [bytes([0xA0 + k]) for k in range(9)], [b"\0\0\1" + bytes([0xB0 + k]) for k in range(4)]
     cases.about("four bodies of the adaptive loop filter for each slice: which ids they take over several pictures; which are sent again")
     for tid in (0, 1):
@@ -158,12 +157,12 @@ def add_filters(cases):
 
 
 def alf_slice(kind, lsb, ids, tid=0, **fields):
-    """A slice of a source that names bodies of the adaptive loop filter."""
+    """Returns a slice of a source that names bodies of the adaptive loop filter."""
     return slice_unit(Header(kind, lsb=lsb), WITH_ALF, tid, inside=True, alf=list(ids), **fields)
 
 
 def filter_source(a, b):
-    """The units of the first pictures: the bodies have other ids than in the merge."""
+    """Returns the units of the first pictures of both sources. The bodies have other ids than in the merge."""
     ids = (7, 2, 5, 0)
     one = [sps(64, 64, tools=WITH_ALF), pps(64, 64), *(aps(ALF, k, body) for k, body in zip(ids, a)), alf_slice(8, 0, ids)]
     other = [sps(64, 64, tools=WITH_ALF), pps(64, 64), *(aps(ALF, k, body) for k, body in enumerate(b)), alf_slice(8, 0, range(4))]
@@ -171,19 +170,20 @@ def filter_source(a, b):
 
 
 def filters_written(a, b):
-    """What is written of these."""
+    """Returns the units that are written for these."""
     sets = [aps(ALF, k, body) for k, body in enumerate(a[:4] + b)]
     return [*pair_sets(tools=WITH_ALF), *sets, *alf_pair(I0, range(4), range(4, 8))]
 
 
 def alf_pair(header, one, other, tid=0):
-    """The header and the slices of a merged picture."""
+    """Returns the header and the slices of a merged picture."""
     slices = [side(header, tools=WITH_ALF, tid=tid, alf=list(ids)) for side, ids in ((left, one), (right, other))]
     return [ph(header, WITH_ALF, tid), *slices]
 
 
 def add_filter_rounds(cases, a, b, tid):
-    """Source 0 has four other bodies in a picture with this TemporalId, and again in one with the TemporalId 0."""
+    """Adds a merge in which source 0 has four other bodies in a picture with this TemporalId, and again in one with the TemporalId 0.
+    """
     one, other = filter_source(a, b)
     ids = (1, 3, 4, 6)
     one += [*(aps(ALF, k, body, tid) for k, body in zip(ids, a[4:8])), alf_slice(TRAIL, 1, ids, tid), alf_slice(TRAIL, 2, ids)]
@@ -197,27 +197,27 @@ def add_filter_rounds(cases, a, b, tid):
 
 
 def lmcs_source(body, number, tools=WITH_LMCS, inside=False, used=1, residual=0, **fields):
-    """A picture whose header switches LMCS on, where there is a body."""
+    """Returns a picture whose header switches LMCS on, if there is a body."""
     header = Header(lmcs=None if body is None else number, residual=residual)
     sets = [sps(64, 64, tools=tools), pps(64, 64)] + ([] if body is None else [aps(LMCS, number, body)])
     return stream(*sets, *picture(header, tools, inside, lmcs=used, **fields))
 
 
 def scaling_source(body, number, inside=False, used=1, **fields):
-    """A picture whose header switches scaling lists on, where there is a body."""
+    """Returns a picture whose header switches scaling lists on, if there is a body."""
     header = Header(scaling=None if body is None else number)
     sets = [sps(64, 64, tools=WITH_SCALING), pps(64, 64)] + ([] if body is None else [aps(SCALING, number, body)])
     return stream(*sets, *picture(header, WITH_SCALING, inside, scaling=used, **fields))
 
 
 def picture(header, tools, inside, **fields):
-    """The header and the slice of a source."""
+    """Returns the header and the slice of a source."""
     units = [slice_unit(header, tools, inside=inside, **fields)]
     return units if inside else [ph(header, tools)] + units
 
 
 def add_shared_sets(cases):
-    """LMCS and scaling lists."""
+    """Adds LMCS and scaling lists."""
     body, other, scale, scale_other = b"\x4c\x80", b"\x4d\x80", b"\x5c\x80", b"\x5d\x80"
     off, chroma = lmcs_source(None, 0), Tools(lmcs=1, chroma=1)
     header = Header(lmcs=0)
@@ -261,7 +261,7 @@ def add_shared_sets(cases):
 
 
 def add_rounds(cases):
-    """What is sent, and when, over several pictures."""
+    """Adds what is sent, and when, over several pictures."""
     add_parameter_sets(cases)
     add_messages(cases)
     cases.about("an end of sequence in both sources, or in one alone; an end of the stream, which counts as one; a CRA picture")
@@ -283,7 +283,7 @@ def add_rounds(cases):
 
 
 def add_parameter_sets(cases):
-    """A PPS that takes another id."""
+    """Adds a PPS that gets another id."""
     def pictures(*numbers, tids=(0, 0, 0, 0)):
         slices = zip(numbers, (8, TRAIL, TRAIL, TRAIL), range(4), tids)
         return [slice_unit(Header(kind, number, lsb), tid=tid, inside=True) for number, kind, lsb, tid in slices]
@@ -309,7 +309,7 @@ def add_parameter_sets(cases):
 
 
 def add_messages(cases):
-    """SEI messages."""
+    """Adds SEI messages."""
     cases.about("messages: those of three types of source 0 are carried, in front of the picture header, and no others")
     light, transfer, hidden = "90 04 03 e8 01 90", "93 01 10", "05 01 2a"
 
@@ -331,7 +331,7 @@ def add_messages(cases):
 
 
 def add_limits(cases):
-    """Limits of what is to be written."""
+    """Adds limits of what is to be written."""
     cases.about("65 files, of which none is read; and 64")
     many = " ".join(f"{64 * (k % 8)},{64 * (k // 8)}={cases.name(A)}" for k in range(65))
     cases.checked(f"merge {many}", refused("L4"), "fail all 0")
@@ -357,7 +357,7 @@ def add_limits(cases):
 
 
 def wall():
-    """64 pictures in eight rows and columns."""
+    """Returns 64 pictures in eight rows and columns."""
     listed = [("u", 1)]
     for k in range(63):
         listed += [("ue", 0)] * ((k % 8 < 7) + (k < 56)) + [("se", 1)]
@@ -367,7 +367,7 @@ def wall():
 
 
 def shown(lengths):
-    """What is shown of two pictures side by side whose units have these lengths."""
+    """Returns what is shown of two pictures side by side whose units have these lengths."""
     sets = {0: '{"ctu":64,"height":64,"sps":0,"subpictures":2,"width":128}', 1: '{"columns":2,"pps":0,"rows":1,"slices":2,"sps":0}'}
     lines, offset = [], 4
     for k, (length, kind) in enumerate(zip(lengths, (15, 16, 19, 8, 8))):
@@ -378,11 +378,11 @@ def shown(lengths):
 
 
 def add_many_slices(cases):
-    """Pictures of a column of CTUs, each a slice."""
+    """Adds pictures of a column of CTUs, each of which is a slice."""
     cases.about("1,000 slices in a picture, and one more")
 
     def column(count):
-        # The tile's slices are of a row each: the height of the first one is told, and holds for those behind it.
+        # Each of the tile's slices is one row: the height of the first one is explicit, and applies to those after it.
         tile = partition(32, [1], [count], count, [("u", 0), ("ue", 1), ("ue", 0)])
         bits = (count - 1).bit_length()
         slices = (slice_unit(I0, address=(k, bits), payload=b"\x80") for k in range(count))
@@ -393,26 +393,26 @@ def add_many_slices(cases):
     cases.checked(f"merge {cases.placed(('0,0', '32,0'), (more, more))}", refused("L5 picture 0"))
 
 
-# What two sources of two pictures each are merged to, a byte a read, where a read of one of them fails: the first picture from the read on
-# before which its end is seen.
+# What is written of two sources of two pictures each, a byte a read, if a given read fails: the first picture is written once its end
+# was read before the failing read.
 SEEN = [EMPTY] * 52 + [M] * 47
 
 
 def add_reads(cases, words, source, outs, *settings):
-    """Each read of a source fails once; what is written then, one read after the other."""
+    """Adds a case for each read of a source, which fails; `outs` has what is written then."""
     for call, out in enumerate(outs):
         cases.case(words, failed(f"read fault source {source}", out), *settings, f"fail {source} {call}")
 
 
 def add_writes(cases, words, whole, *settings):
-    """A byte a write: each write fails once; and the call behind the last one, which isn't made."""
+    """Adds a case for each write of a byte, which fails; and one for the call after the last, which isn't made."""
     for call in range(len(whole)):
         cases.case(words, failed("write fault", whole[:call]), *settings, "pieces out 1", f"fail out {call}")
     cases.case(words, Expected(out=whole), *settings, "pieces out 1", f"fail out {len(whole)}")
 
 
 def add_faults(cases):
-    """Each read and each write failing once."""
+    """Adds each read and each write failing once."""
     cases.about("two pictures of each source: each read fails once, and a source can't be read at all")
     twice, whole = A + A, M + M
     assert len(whole) == 140
