@@ -1,12 +1,14 @@
 #!/bin/bash
-# How much processor time a merge takes through the library in C, pushed in pieces of 1,500 and of 65,536 bytes and by gq_run, beside the
-# program's on the same files, and how much memory they have resident at most: of each family of streams, so many times one behind another.
-# How long the call takes that hands in the last byte of a picture until its merge is there. And the least stack that a merge needs.
-# A line for each measurement as it is made, and then all of them in a summary. It takes a minute or two.
-# No test: times depend on the machine.
-# Usage: scripts/bench-c.sh DIR PROGRAM [REPEATS]   (DIR is what scripts/c-library.sh filled, PROGRAM the built program, or - for none; 2,000
-# times if left out)
-# With STREAMS=FOLDER the families of a folder (NAME_0.vvc .. beside MANIFEST.json) in place of the stored streams.
+# Measures merges by the C library: pushed in pieces of 1,500 and of 65,536 bytes, and by gq_run, compared with the program on the same files.
+# Usage: scripts/bench-c.sh DIR PROGRAM [REPEATS]
+#
+# DIR is the folder that scripts/c-library.sh filled, PROGRAM the built program, or - for none. Each file of a family of streams is repeated
+# REPEATS times (2,000 by default). With STREAMS=FOLDER the families are those of a folder, NAME_0.vvc .. with MANIFEST.json, instead of the
+# stored streams.
+#
+# It measures processor time, peak resident memory, the time from the call that pushes the last byte of a picture until its merge is ready,
+# and the least stack of a merge. It prints a line for each measurement, and a summary at the end. It takes a minute or two. Not a test,
+# because times depend on the machine. Needs cc (or CC=COMPILER) and python3.
 set -euo pipefail
 [ $# -ge 2 ] || { echo "usage: scripts/bench-c.sh DIR PROGRAM [REPEATS]" >&2; exit 2; }
 for tool in "${CC:-cc}" python3; do
@@ -36,7 +38,7 @@ families() {
   fi
 }
 
-# The words of a family, each file so many times one behind another.
+# Prints the arguments of a family, with each file repeated.
 repeated() {
   local word k=0
   for word in "$@"; do
@@ -51,7 +53,7 @@ timed() {
   "$scripts/measure.py" "$1, $2" -- "${@:3}" | tee -a "$work/$2"
 }
 
-# The least stack of a thread, in KiB, that a merge doesn't run out of.
+# Prints the least stack of a thread, in KiB, with which a merge ends.
 least_stack() {
   local low=16 high=1024 mid
   while ((high - low > 8)); do
@@ -61,7 +63,7 @@ least_stack() {
   echo "$high"
 }
 
-# The measurements of one way: the times of all families, and between what the most memory lies.
+# Prints the measurements of one way: the times of all families, and the smallest and largest peak of memory.
 summed() {
   [ ! -f "$work/$1" ] || awk -v way="$1" '
     { match($0, /[0-9.]+ ms/); took = took (NR > 1 ? ", " : "") sprintf("%.0f", substr($0, RSTART) + 0)

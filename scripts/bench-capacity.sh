@@ -1,9 +1,10 @@
 #!/bin/bash
-# How many viewers one processor serves, each with a merge of its own, and how much memory a viewer takes: for 4, 16 and 64 tiles, at 30 and 60
-# pictures a second, with slices of some 30 bytes and of 16 KiB. Computed from measured runs of `merge`, one process a viewer, in which each IDR
-# picture begins a sequence of fifty pictures; sets come with it alone. What reading and writing files takes is in it.
-# No test: times depend on the machine.
+# Measures how many viewers one processor serves, if each has a merge of its own, and how much memory a viewer takes.
 # Usage: scripts/bench-capacity.sh PROGRAM   (the built program)
+#
+# It prints a table for 4, 16 and 64 tiles, 30 and 60 pictures a second, and slices of about 30 bytes and of 16 KiB. The figures are computed
+# from runs of `merge`, one process for each viewer, and include the time to read and write files. Each IDR picture begins a sequence of fifty
+# pictures, and only it comes with sets. Not a test, because times depend on the machine. Needs python3 and awk.
 set -euo pipefail
 [ $# = 1 ] || { echo "usage: scripts/bench-capacity.sh PROGRAM" >&2; exit 2; }
 for tool in python3 awk; do

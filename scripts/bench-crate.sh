@@ -1,6 +1,6 @@
-# For the scripts that time calls of crates: read by them, from the top of the repository, with a folder `work` of theirs.
+# Functions for the scripts that time calls of crates. They source it from the top of the repository, with a folder of their own in `work`.
 
-# A copy of these crates, with a program NAME of its own that uses some of them; `bench` is its folder.
+# Copies crates, and adds a program NAME that uses some of them. Sets `bench` to its folder.
 # Usage: bench_crate NAME 'CRATE ..' CRATE ..
 bench_crate() {
     local name=$1 uses=$2 it
@@ -17,7 +17,7 @@ bench_crate() {
     touch "$bench/specs/Lib.antt" "$bench/proofs/Lib.antt"
 }
 
-# Proves and builds the program, with the command in RT, or rt, and runs it three times.
+# Proves and builds the program, with the command in RT, by default rt, and runs it three times.
 run_bench() {
     cd "$bench"
     "${RT:-rt}" run > "$work/times" 2> "$work/log" || { grep -v ': proved' "$work/log" | tail -60; exit 1; }

@@ -1,9 +1,11 @@
 #!/bin/bash
-# How much processor time `extract` takes for one of four subpictures, beside `cat` of the stream, and how much memory it has resident at
-# most: with slices of some 64 KiB, and for a stream of tiny pictures.
-# No test: times depend on the machine.
-# Usage: scripts/bench-extract.sh PROGRAM [MIB [MERGE]]   (PROGRAM is the built program; default 256 and a merge of four small streams)
-# MERGE is a merged stream with four subpictures, whose picture headers are units of their own.
+# Measures the processor time and the peak resident memory of `extract` for one of four subpictures, compared with `cat`, `show` and
+# `check extract` of the stream.
+# Usage: scripts/bench-extract.sh PROGRAM [MIB [MERGE]]
+#
+# PROGRAM is the built program. The stream has MIB mebibytes (256 by default), with slices of about 64 KiB. It is made from MERGE, a merged
+# stream with four subpictures, whose picture headers are units of their own; by default a merge of four small streams. A stream of tiny
+# pictures is measured too. Not a test, because times depend on the machine.
 set -euo pipefail
 [ $# -ge 1 ] || { echo "usage: scripts/bench-extract.sh PROGRAM [MIB [MERGE]]" >&2; exit 2; }
 program=$(realpath "$1")
@@ -36,7 +38,7 @@ while read -r name pictures; do
   told="$name, $pictures pictures of $((size / pictures)) bytes"
   "$scripts/measure.py" "$told, cat" --bytes "$size" -- cat "$work/$name"
   for command in show "check extract 1" "extract 1"; do
-    # The command is split into its words.
+    # The command is split into its arguments.
     "$scripts/measure.py" "$told, $command" --bytes "$size" --per "$pictures" picture -- "$program" $command "$work/$name"
   done
 done < "$work/names"

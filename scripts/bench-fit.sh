@@ -1,12 +1,12 @@
 #!/bin/bash
-# How long the largest placement takes: 64 regions of 256 x 16,384 samples at CTUs of 32, each a picture of 8 x 512 tiles
-# of a CTU, and 64 of 2,048 x 2,048. No test: times depend on the machine.
-# Usage: scripts/bench-fit.sh   (from the top of the repository; proves what it runs first, with the command in RT, or rt)
+# Measures how long the largest placements take: 64 regions of 256 x 16,384 samples with CTUs of 32, each a picture of 8 x 512
+# tiles of one CTU, and 64 regions of 2,048 x 2,048. Not a test, because times depend on the machine.
+# Usage: scripts/bench-fit.sh   (in the top folder of the repository; first proves what it runs, with the command in RT, by default rt)
 set -euo pipefail
 work=$(mktemp -d)
 trap 'rm -rf "$work"' EXIT
 
-# A program that asks the clock around the calls.
+# A program that measures the time around the calls.
 . scripts/bench-crate.sh
 bench_crate bench_fit 'vx_layout vx_fit anyhow' vx_bits vx_layout vx_fit
 cat > "$bench/src/main.rt" <<'RT'
@@ -26,7 +26,7 @@ use vx_layout::{Numbers, Rect, RectList, tile_bounds};
 
 const CTB: u32 = 32;
 
-// Whether a region has numbers that it may have.
+// Returns whether a region has numbers that it may have.
 fn is_in_range(region: Placed) -> bool
     ensures { OnTrue result (IsInRange region) }
 {
@@ -39,7 +39,7 @@ fn is_in_range(region: Placed) -> bool
     1 <= region.h && region.h <= 16384
 }
 
-// Whether regions have such numbers.
+// Returns whether regions have such numbers.
 fn are_in_range(placed: &[Placed]) -> bool
     ensures { OnTrue result (All IsInRange placed.now) }
 {
@@ -51,7 +51,7 @@ fn are_in_range(placed: &[Placed]) -> bool
     true
 }
 
-// Whether a picture has the size of its region.
+// Returns whether a picture has the size of its region.
 fn is_sized(region: Rect, part: &Numbers) -> bool
     ensures { OnTrue result (IsSized region part.now) }
 {
@@ -64,7 +64,7 @@ fn is_sized(region: Rect, part: &Numbers) -> bool
     part.columns.last() == region.w && part.rows.last() == region.h
 }
 
-// Whether each picture has its region's size.
+// Returns whether each picture has its region's size.
 fn are_sized(corners: &[Rect], parts: &[Numbers]) -> bool
     ensures { OnTrue result (AllZip IsSized corners.now parts.now) }
 {
@@ -79,7 +79,7 @@ fn are_sized(corners: &[Rect], parts: &[Numbers]) -> bool
     true
 }
 
-// Regions side by side, `across` in a row, of this size in samples.
+// Returns regions side by side, `across` in a row, of this size in samples.
 fn grid(alloc: Global, across: u32, width: u32, height: u32) -> anyhow::Result<Vec<Placed>>
     requires { 0 < across }
 {
@@ -92,7 +92,7 @@ fn grid(alloc: Global, across: u32, width: u32, height: u32) -> anyhow::Result<V
     Ok(placed)
 }
 
-// A picture for each, with tiles of this size.
+// Returns a picture for each, with tiles of this size.
 fn pictures(alloc: Global, corners: &[Rect], size: u32) -> anyhow::Result<Vec<Numbers>>
     requires { 1 ≤ size }
 {
@@ -114,7 +114,7 @@ fn pictures(alloc: Global, corners: &[Rect], size: u32) -> anyhow::Result<Vec<Nu
     Ok(parts)
 }
 
-// The CTUs of regions.
+// Returns the CTUs of regions.
 fn in_ctus(alloc: Global, placed: &[Placed]) -> Result<Vec<Rect>, AllocError>
     ensures { IfOk result (λ corners. corners.items ≡ map (in_ctus CTB) placed.now) }
 {
@@ -157,7 +157,7 @@ fn main(rt: HostRuntime) -> anyhow::Result<()> {
 }
 RT
 
-# The tests' proofs of the functions that are theirs too, and why the regions fit.
+# The proofs of functions that the tests have too, and of why the regions fit.
 proofs=$bench/proofs
 for name in are_in_range are_sized; do
     cp -r "crates/vx_fit/proofs/tests/$name" "$proofs"

@@ -1,12 +1,12 @@
 #!/bin/bash
-# How long it takes to read and to write a picture header (two bytes with its trailing bits) and a slice header (one byte) of a picture of
-# two subpictures (128 x 64 samples), under its sets, in an optimised build. No test: times depend on the machine.
-# Usage: scripts/bench-headers.sh   (from the top of the repository; proves what it runs first, with the command in RT, or rt)
+# Measures how long it takes to read and to write a picture header (two bytes with its trailing bits) and a slice header (one byte) of a
+# picture of two subpictures (128 x 64 samples), in an optimised build. Not a test, because times depend on the machine.
+# Usage: scripts/bench-headers.sh   (in the top folder of the repository; first proves what it runs, with the command in RT, by default rt)
 set -euo pipefail
 work=$(mktemp -d)
 trap 'rm -rf "$work"' EXIT
 
-# A program that asks the clock around the calls.
+# A program that measures the time around the calls.
 . scripts/bench-crate.sh
 bench_crate bench_headers 'vx_bits vx_layout vx_sps vx_pps vx_ph vx_sh anyhow' \
     vx_bits vx_fields vx_table vx_ptl vx_rpl vx_layout vx_sps vx_pps vx_ph vx_sh
@@ -58,7 +58,7 @@ fn ctus(alloc: Global) -> Result<RectList, AllocError> {
     Ok(rects)
 }
 
-// Whether numbers are within the limits of a picture.
+// Returns whether numbers are within the limits of a picture.
 fn is_in_limits(n: &Numbers) -> bool
     ensures { OnTrue result (IsInLimits n.now) }
 {
@@ -74,7 +74,7 @@ fn is_in_limits(n: &Numbers) -> bool
     n.subpics.len() >= 1 && n.subpics.len() <= 1000
 }
 
-// The layout of numbers, with an id for each subpicture.
+// Returns the layout of numbers, with an id for each subpicture.
 fn layout_with(alloc: Global, numbers: Numbers, ids: &IdList) -> anyhow::Result<Layout>
     ensures { IfOk result (λ layout. length ids.now ≡ length layout.subpics) }
 {
@@ -90,7 +90,7 @@ fn layout_with(alloc: Global, numbers: Numbers, ids: &IdList) -> anyhow::Result<
     }
 }
 
-// A slice, a tile and a subpicture for each CTU.
+// Returns a slice, a tile and a subpicture for each CTU.
 fn numbers_of(alloc: Global) -> anyhow::Result<Numbers> {
     let Ok(columns) = tile_bounds(alloc, &[1], 2) else {
         anyhow::bail!("no columns");
@@ -122,7 +122,7 @@ fn sets_of(alloc: Global, sps: &[u8], pps: &[u8]) -> anyhow::Result<Sets>
     Ok(Sets { sps, pps, layout, ids })
 }
 
-// Reads a picture header so many times.
+// Reads a picture header many times.
 fn time_reading_ph(rt: &HostRuntime, sets: &Sets, rbsp: &[u8]) -> anyhow::Result<()> {
     if 50000 < rbsp.len() {
         anyhow::bail!("too long");
@@ -145,7 +145,7 @@ fn both_ways_ph(alloc: Global, sets: &Sets, rbsp: &[u8]) -> anyhow::Result<Vec<u
     Ok(write_ph(alloc, &header, &sets.sps, &sets.pps)?)
 }
 
-// Reads and writes it so many times.
+// Reads and writes it many times.
 fn time_both_ways_ph(rt: &HostRuntime, sets: &Sets, rbsp: &[u8]) -> anyhow::Result<()> {
     let start = Instant::now(rt)?;
     for _round in 0..ROUNDS {
@@ -158,7 +158,7 @@ fn time_both_ways_ph(rt: &HostRuntime, sets: &Sets, rbsp: &[u8]) -> anyhow::Resu
     Ok(())
 }
 
-// The bytes of a slice header that was read.
+// Returns the bytes of a slice header that was read.
 fn write(alloc: Global, rbsp: &[u8], numbers: &SliceNumbers<'_>, slice: &SliceHeader, size: usize) -> Result<Vec<u8>, AllocError>
     requires read { BeginsSlice (in_force_at numbers.now) rbsp.now slice.now size }
     requires apart { slice.now.inside ≡ false }
@@ -182,7 +182,7 @@ fn both_ways(alloc: Global, rbsp: &[u8], numbers: &SliceNumbers<'_>) -> anyhow::
     Ok(write(alloc, rbsp, numbers, &slice, size)?)
 }
 
-// Reads a slice header so many times.
+// Reads a slice header many times.
 fn time_reading_sh(rt: &HostRuntime, rbsp: &[u8], numbers: &SliceNumbers<'_>) -> anyhow::Result<()>
     requires size { length rbsp.now ≤ 1000 }
     requires few { length numbers.now.ids.now ≤ 1000 }
@@ -197,7 +197,7 @@ fn time_reading_sh(rt: &HostRuntime, rbsp: &[u8], numbers: &SliceNumbers<'_>) ->
     Ok(())
 }
 
-// Reads and writes it so many times.
+// Reads and writes it many times.
 fn time_both_ways(rt: &HostRuntime, rbsp: &[u8], numbers: &SliceNumbers<'_>) -> anyhow::Result<()>
     requires size { length rbsp.now ≤ 1000 }
     requires few { length numbers.now.ids.now ≤ 1000 }

@@ -1,12 +1,12 @@
 #!/bin/bash
-# How long the largest layouts take: 512 x 512 CTUs, a bound at each, and 1,000 slices and subpictures.
-# Entry points are counted without sync and then with it. No test: times depend on the machine.
-# Usage: scripts/bench-layout.sh   (from the top of the repository; proves what it runs first, with the command in RT, or rt)
+# Measures how long the largest layouts take: 512 x 512 CTUs with a tile for each, and 1,000 slices and subpictures.
+# Entry points are counted without synchronization and then with it. Not a test, because times depend on the machine.
+# Usage: scripts/bench-layout.sh   (in the top folder of the repository; first proves what it runs, with the command in RT, by default rt)
 set -euo pipefail
 work=$(mktemp -d)
 trap 'rm -rf "$work"' EXIT
 
-# A program that asks the clock around the calls.
+# A program that measures the time around the calls.
 . scripts/bench-crate.sh
 bench_crate bench_layout 'vx_bits vx_layout anyhow' vx_bits vx_layout
 cat > "$bench/src/main.rt" <<'RT'
@@ -21,7 +21,7 @@ use std::alloc::{AllocError, Global};
 use std::time::Instant;
 use vx_layout::{Layout, LayoutError, Numbers, Rect, RectList, tile_bounds};
 
-// A picture cut into `across` by `down` parts, the last of each row and column as large as is left.
+// Returns a picture cut into `across` by `down` parts; the last of each row and column takes the rest.
 fn parts(alloc: Global, side: u32, across: u32, down: u32) -> Result<RectList, AllocError>
     requires { (0 < across) × (0 < down) }
 {
@@ -34,7 +34,7 @@ fn parts(alloc: Global, side: u32, across: u32, down: u32) -> Result<RectList, A
     Ok(list)
 }
 
-// The part in a column and a row.
+// Returns the part in a column and a row.
 fn part(side: u32, across: u32, down: u32, column: u32, row: u32) -> Rect
     requires { (0 < across) × (0 < down) × (column < across) × (row < down) }
 {
@@ -43,7 +43,7 @@ fn part(side: u32, across: u32, down: u32, column: u32, row: u32) -> Rect
     Rect { x, y, w, h }
 }
 
-// Where a part begins, and its size.
+// Returns where a part begins, and its size.
 fn span(side: u32, count: u32, at: u32) -> (u32, u32)
     requires { (0 < count) × (at < count) }
 {
@@ -56,7 +56,7 @@ fn span(side: u32, count: u32, at: u32) -> (u32, u32)
     }
 }
 
-// The same list with rectangles without a CTU behind it.
+// Returns the same list with rectangles without a CTU after it.
 fn with_empty(mut list: RectList, count: u32) -> Result<RectList, AllocError> {
     for _i in 0..count {
         list.push(Rect { x: 0, y: 0, w: 0, h: 0 })?;
@@ -64,7 +64,7 @@ fn with_empty(mut list: RectList, count: u32) -> Result<RectList, AllocError> {
     Ok(list)
 }
 
-// A square picture with tiles of one CTU, and these slices and subpictures.
+// Returns a square picture with tiles of one CTU, and these slices and subpictures.
 fn picture(
     alloc: Global,
     side: u32,
@@ -81,7 +81,7 @@ fn picture(
     })
 }
 
-// Whether a picture is within the limits that its layout asks for.
+// Returns whether a picture is within the limits that its layout requires.
 fn is_in_limits(n: &Numbers) -> bool
     ensures { OnTrue result (IsInLimits n.now) }
 {

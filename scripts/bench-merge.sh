@@ -1,11 +1,14 @@
 #!/bin/bash
-# How much processor time `merge` takes to put four streams together, beside `cat` of all of them; and `verify merge` to compare what comes
-# of it with them, beside `cat` of all five files; and how much memory they have resident at most. `play` of sixteen regions of ten files of
-# fifty pictures each, beside `merge` of the same pictures in one file a region. The time of a round of streams of tiny pictures, and where it
-# goes; and that of rounds in which the PPS takes another id than 0, and of rounds in which the sets change.
-# No test: times depend on the machine.
-# Usage: scripts/bench-merge.sh PROGRAM [MIB]   (PROGRAM is the built program; MIB mebibytes of each of four sources, whose slices have 64 KiB;
-# default 64). Where perf and valgrind are there, they tell more of where the time goes.
+# Measures the processor time and the peak resident memory of `merge`, `check merge`, `verify merge` and `play`.
+# Usage: scripts/bench-merge.sh PROGRAM [MIB]
+#
+# PROGRAM is the built program. It measures:
+# - `merge` of four sources of MIB mebibytes each (64 by default), with slices of 64 KiB, compared with `cat` of them; and `verify merge` of
+#   the result, compared with `cat` of all five files;
+# - a round of streams of tiny pictures, of 2, 16 and 64 sources;
+# - `play` of sixteen regions of ten files of fifty pictures each, compared with `merge` of the same pictures in one file for each region;
+# - rounds in which the PPS gets another id than 0, and rounds in which the sets change.
+# If perf and valgrind are installed, it also prints where the time goes. Not a test, because times depend on the machine.
 set -euo pipefail
 [ $# -ge 1 ] || { echo "usage: scripts/bench-merge.sh PROGRAM [MIB]" >&2; exit 2; }
 program=$(realpath "$1")
@@ -15,8 +18,8 @@ work=$(mktemp -d)
 trap 'rm -rf "$work"' EXIT
 rounds=2000
 
-# The sources. `tiny` has an IDR picture of some 50 bytes with its sets each time. Of the others each IDR picture begins a sequence of fifty
-# pictures of one PPS (`same`), of another one from the second on (`other`), or of two in turn (`changing`).
+# The sources. Each picture of `tiny` is an IDR picture of about 50 bytes with its sets. In the others each IDR picture begins a sequence of
+# fifty pictures with one PPS (`same`), with another one from the second picture on (`other`), or with two in turn (`changing`).
 PYTHONPATH=$scripts python3 - "$work" "$mib" "$rounds" "$scripts/../crates/vx_app/data/a.266" <<'PY'
 import sys
 from long_streams import write
@@ -35,7 +38,7 @@ for name, ids in (("same", [0] * 50), ("other", [0] + [1] * 49), ("changing", [0
     write(f"{work}/{name}", Steady(11, ids).bytes, rounds // 50)
 PY
 
-# The words for so many sources of a file, side by side.
+# Prints the arguments for `count` sources of a file, side by side.
 row() {
   local file=$1 count=$2 k
   for ((k = 0; k < count; k++)); do echo "$((k * 64)),0=$file"; done
@@ -68,7 +71,7 @@ for name in tiny large; do
   "$scripts/measure.py" "the same in one file a region, merge" --per 500 round -- "$program" merge "${words[@]}"
 done
 
-# Each source read by itself: what of a round goes for units, headers and pictures, with the lines of `show`, or without them.
+# Each source read by itself: the part of a round that goes to units, headers and pictures, without the lines of `show` and with them.
 for ((k = 0; k < 64; k++)); do cat "$work/tiny"; done > "$work/all"
 "$scripts/measure.py" "the 64 sources one after another, check extract" --per "$rounds" round -- "$program" check extract 0 "$work/all"
 "$scripts/measure.py" "the 64 sources one after another, show" --per "$rounds" round -- "$program" show "$work/all"
@@ -86,8 +89,8 @@ if command -v perf >/dev/null && perf record -q -o "$work/samples" -F 2000 "$pro
   perf report -i "$work/samples" --stdio --no-children 2>/dev/null | grep -E '^ +[0-9]' | sed -n '1,30s/ *$//p'
 fi
 
-# And which clear and copy memory, how often: a scope of a table has 4 KiB. (Of time its counts of instructions say little: it counts such a
-# call's bytes one by one.)
+# Which functions clear and copy memory, and how often: a scope of a table has 4 KiB. (Callgrind's counts of instructions say little about
+# the time of these calls, because it counts their bytes one by one.)
 mapfile -t words < <(row "$work/short" 64)
 if command -v valgrind >/dev/null; then
   valgrind --tool=callgrind --callgrind-out-file="$work/calls" "$program" merge "${words[@]}" >/dev/null 2>"$work/log" \

@@ -1,9 +1,11 @@
 #!/bin/bash
-# How much processor time `show` takes for the pictures of a stream, and how much memory it has resident at most: the stream many times over,
-# with longer slices, with as long ones as a picture may have, and with 64 PPS units before each picture; and pictures of 1,000 slices.
-# No test: times depend on the machine.
-# Usage: scripts/bench-pictures.sh PROGRAM [COPIES [STREAM]]   (PROGRAM is the built program; default 8000 and a merge of four small streams)
-# STREAM has pictures of some slices whose headers are units of their own, and begins with an IDR picture.
+# Measures the processor time and the peak resident memory of `show` for the pictures of a stream.
+# Usage: scripts/bench-pictures.sh PROGRAM [COPIES [STREAM]]
+#
+# PROGRAM is the built program. STREAM is repeated COPIES times (8000 by default). It begins with an IDR picture, and has pictures of several
+# slices whose headers are units of their own; by default it is a merge of four small streams. It is measured as it is, with longer slices,
+# with slices as long as a picture may have, and with 64 PPS units before each picture. Pictures of 1,000 slices are measured too. Not a
+# test, because times depend on the machine.
 set -euo pipefail
 [ $# -ge 1 ] || { echo "usage: scripts/bench-pictures.sh PROGRAM [COPIES [STREAM]]" >&2; exit 2; }
 program=$(realpath "$1")
@@ -45,12 +47,12 @@ def ue(number):
 
 
 def unit_of(kind, bits):
-    """The unit of these bits, after which a one and zeros stand."""
+    """The unit of these bits, followed by a one and zeros."""
     bits += "1" + "0" * (-(len(bits) + 1) % 8)
     return unit(kind, 0, bytes(int(bits[n : n + 8], 2) for n in range(0, len(bits), 8)))
 
 
-# 2,560 by 1,600 samples, each CTU of 64 by 64 a subpicture of one slice, with ids of 10 bits; forty tiles, each a column of CTUs
+# 2,560 by 1,600 samples. Each CTU of 64 by 64 is a subpicture of one slice, with ids of 10 bits. There are forty tiles, each a column of CTUs.
 sps = "0000" "0000" "000" "00" "01" "1" + "0000001" "0" "00110011" "100" "00000" "00000000" + "00" + ue(2560) + ue(1600) + "01"
 sps += ue(999) + "11" + "000000" "00000" + ue(9) + "0" + "10000000000011110111100000000000110000000001100000100000000000000"
 pps = "000000" "0000" "0" + ue(2560) + ue(1600) + "00000" "01" + "1" "1" + ue(0) + ue(24) + "0110" + "011000010000000000"

@@ -1,12 +1,12 @@
 #!/bin/bash
-# How long it takes to read and to write the SPS (20 bytes) and the PPS (10 bytes) of a picture of two subpictures (128 x 64
-# samples) in an optimised build. No test: times depend on the machine.
-# Usage: scripts/bench-sets.sh   (from the top of the repository; proves what it runs first, with the command in RT, or rt)
+# Measures how long it takes to read and to write the SPS (20 bytes) and the PPS (10 bytes) of a picture of two subpictures
+# (128 x 64 samples), in an optimised build. Not a test, because times depend on the machine.
+# Usage: scripts/bench-sets.sh   (in the top folder of the repository; first proves what it runs, with the command in RT, by default rt)
 set -euo pipefail
 work=$(mktemp -d)
 trap 'rm -rf "$work"' EXIT
 
-# A program that asks the clock around the calls.
+# A program that measures the time around the calls.
 . scripts/bench-crate.sh
 bench_crate bench_sets 'vx_bits vx_sps vx_pps anyhow' \
     vx_bits vx_fields vx_table vx_ptl vx_rpl vx_layout vx_sps vx_pps
@@ -15,7 +15,7 @@ bench_crate bench_sets 'vx_bits vx_sps vx_pps anyhow' \
 timings() {
     cat <<RT
 
-// Reads the set so many times.
+// Reads the set many times.
 fn time_reading_$1(rt: &HostRuntime, rbsp: &[u8]) -> anyhow::Result<()> {
     if 50000 < rbsp.len() {
         anyhow::bail!("too long");
@@ -29,7 +29,7 @@ fn time_reading_$1(rt: &HostRuntime, rbsp: &[u8]) -> anyhow::Result<()> {
     Ok(())
 }
 
-// Writes it so many times.
+// Writes it many times.
 fn time_writing_$1(rt: &HostRuntime, rbsp: &[u8]) -> anyhow::Result<()> {
     if 50000 < rbsp.len() {
         anyhow::bail!("too long");

@@ -1,7 +1,8 @@
 #!/bin/bash
-# How much processor time `show` takes for a byte stream, beside `cat` of the same file, and how much memory it has resident at most.
-# No test: times depend on the machine.
-# Usage: scripts/bench-show.sh PROGRAM [MIB]   (PROGRAM is the built program; default 256)
+# Measures the processor time and the peak resident memory of `show` for byte streams, compared with `cat` of the same file.
+# Usage: scripts/bench-show.sh PROGRAM [MIB]
+#
+# PROGRAM is the built program. Each stream has MIB mebibytes (256 by default). Not a test, because times depend on the machine.
 set -euo pipefail
 [ $# -ge 1 ] || { echo "usage: scripts/bench-show.sh PROGRAM [MIB]" >&2; exit 2; }
 program=$(realpath "$1")
@@ -10,8 +11,8 @@ scripts=$(realpath "$(dirname "$0")")
 work=$(mktemp -d)
 trap 'rm -rf "$work"' EXIT
 
-# Units of a type that isn't read, of 64 KiB: bytes as entropy coding gives them; bytes of which every third begins a pair of zeros. Units of
-# 100 bytes. One unit that never ends.
+# The streams: units of 64 KiB of a type that isn't read, with bytes as entropy coding gives them; such units in which every third byte begins
+# a pair of zeros; units of 100 bytes; one unit that never ends.
 PYTHONPATH=$scripts python3 - "$work" "$mib" <<'PY'
 import random, sys
 from long_streams import ordinary, write

@@ -1,10 +1,12 @@
 #!/bin/bash
-# Puts broken streams through the library in C under the address and the undefined behaviour sanitizer: merges and extractions of stored
-# streams, each with one to four changes, handed in in pieces. Each has to answer what gq_run does on the same bytes: status, bytes and line.
-# Usage: scripts/c-broken.sh DIR [COUNT]   (DIR is what scripts/c-library.sh filled; COUNT broken merges, and as many extractions, of all
-# families together; 100,000 if left out)
-# With STREAMS=FOLDER the families of a folder (NAME_0.vvc .. beside MANIFEST.json) too; with PROGRAM=FILE each fiftieth merge is also the
-# built program's, on files with the same bytes.
+# Tests the C library on broken streams, under the address and the undefined behaviour sanitizer.
+# Usage: scripts/c-broken.sh DIR [COUNT]
+#
+# DIR is the folder that scripts/c-library.sh filled. COUNT merges (100,000 by default) and as many extractions are made from the stored
+# streams, each with one to four changes and pushed in pieces. Each has to give the status, the bytes and the line of gq_run on the same
+# bytes. With STREAMS=FOLDER it also uses the families of a folder, NAME_0.vvc .. with MANIFEST.json. With PROGRAM=FILE every fiftieth merge
+# is also compared with that of the built program. It prints a line for each family, and stops with status 1 after the first with a
+# difference. Needs cc (or CC=COMPILER) and python3.
 set -euo pipefail
 [ $# -ge 1 ] || { echo "usage: scripts/c-broken.sh DIR [COUNT]" >&2; exit 2; }
 for tool in "${CC:-cc}" python3; do

@@ -1,10 +1,12 @@
 #!/bin/bash
-# Proves and builds the library in C, and puts it into a folder: lib/libgoosequince.a, include/goosequince.h and
-# lib/pkgconfig/goosequince.pc. Then it compiles and runs the programs of tests/c and examples over it: as they are, under
-# valgrind, and with the address and the undefined behaviour sanitizer. What isn't there of these, or of C++, it passes over and says so.
+# Proves and builds the C library, installs it in a folder, and tests it there.
 # Usage: scripts/c-library.sh DIR [COUNT]
-# COUNT broken merges are tried of each family (2,000 if left out). With ARCHIVE=FILE it is this archive that is tried, and nothing
-# is proved or built; with STREAMS=FOLDER the families of a folder (NAME_0.vvc .. beside MANIFEST.json) are merged too.
+#
+# DIR receives lib/libgoosequince.a, include/goosequince.h and lib/pkgconfig/goosequince.pc. The programs of tests/c and examples are then
+# compiled with it and run: as they are, under valgrind, and with the address and the undefined behaviour sanitizer. If valgrind, a sanitizer
+# or a C++ compiler is missing, a line says so. COUNT broken merges of each family are tried (2,000 by default).
+# With ARCHIVE=FILE this archive is tested, and nothing is proved or built. With STREAMS=FOLDER the families of a folder, NAME_0.vvc .. with
+# MANIFEST.json, are merged too. The last line is `examples: ok`.
 # Needs the Rattle kit's `rt` on the path, cc (or CC=COMPILER), ar and python3.
 set -euo pipefail
 [ $# -ge 1 ] || { echo "usage: scripts/c-library.sh DIR [COUNT]" >&2; exit 2; }
@@ -23,7 +25,7 @@ trap 'rm -rf "$work"' EXIT
 data=$PWD/crates/vx_app/data
 strict=(-std=c99 -Wall -Wextra -pedantic -Werror -Wno-unused-function -O1 -g)
 
-# The archive of crate vx_c, and beside it the three functions through which it calls malloc, realloc and free.
+# Makes the archive from the library of crate vx_c, and the three functions through which it calls malloc, realloc and free.
 build_library() {
   mkdir -p "$to/lib/pkgconfig" "$to/include"
   cp include/goosequince.h "$to/include/"
@@ -48,14 +50,14 @@ PC
   echo "$to: libgoosequince.a, $(stat -c %s "$to/lib/libgoosequince.a") bytes"
 }
 
-# Compiles a program of tests/c or examples over the library: FILE NAME FLAGS ..
+# Compiles a program of tests/c or examples with the library: FILE NAME FLAGS ..
 compile() {
   local wraps=()
   [[ $1 != */memory.c ]] || wraps=(-Wl,--wrap=malloc,--wrap=realloc,--wrap=free)
   "$cc" "${strict[@]}" "${@:3}" -I"$to/include" "$1" "$to/lib/libgoosequince.a" "${wraps[@]}" -pthread -o "$work/$2"
 }
 
-# What is there of that which isn't needed.
+# The optional tools that are installed.
 echo 'int main(void) { return 0; }' > "$work/none.c"
 "$cc" -fsanitize=address,undefined "$work/none.c" -o "$work/none" 2> /dev/null && "$work/none" && sanitizers=1 || sanitizers=
 command -v valgrind > /dev/null && valgrind=1 || valgrind=
@@ -79,7 +81,7 @@ run_each() {
   echo "$name: ok"
 }
 
-# What the examples write, beside what the tests did; also as C++.
+# Runs the examples, also as C++, and compares their output with the stored merge.
 try_examples() {
   compile examples/merge.c merge-example
   "$work/merge-example" "0,0=$data/a.266" "64,0=$data/a.266" | cmp - "$data/m.266"

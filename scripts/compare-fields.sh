@@ -1,8 +1,9 @@
 #!/bin/bash
-# Compares the fields that `show --fields` writes of real streams with those that ffmpeg's trace_headers logs: names and values, in order.
-# Usage: scripts/compare-fields.sh PROGRAM FILE ..   (PROGRAM is the built program; ffmpeg is to be installed, and read H.266)
-# A field that two structures share, or both lists of a header, is compared without their prefix and their `_l0` and `_l1`. Left out are the
-# bits of general constraints, which have one name here, alignments, trailing bits and units of other types.
+# Compares the fields that `show --fields` prints of real streams with those that ffmpeg's trace_headers logs: names and values, in order.
+# Usage: scripts/compare-fields.sh PROGRAM FILE ..   (PROGRAM is the built program; needs an ffmpeg that reads H.266)
+#
+# A field that two structures or both lists of a header share is compared without its prefix and without `_l0` and `_l1`. These aren't
+# compared: the bits of general constraints, which have one name here, alignments, trailing bits and units of other types.
 set -euo pipefail
 [ $# -ge 2 ] || { echo "usage: scripts/compare-fields.sh PROGRAM FILE .." >&2; exit 2; }
 program=$(realpath "$1")

@@ -1,18 +1,22 @@
 #!/bin/bash
-# Has allocations fail, one a run, in every test, in runs of the program, and in pieces of what the programs of the gate are
-# asked, and counts what comes of it. Contracts leave open when memory runs out; this shows that then nothing else changes.
-# A test must fail for want of memory; `show` must answer 4 after the lines of whole units, `extract`, `merge` and `play`
-# after what is written of whole pictures, and what tells one thing before it has told it; of the programs of the gate one
-# line may tell of it, or they end with a front of their lines; or each goes as ever, where it can do without. What is
-# neither is printed, and makes the status 1. No test of the gate: only how the C library is called is looked at.
-#
+# Makes allocations fail, one in each run, and checks that lack of memory is handled: in every test, in runs of the program,
+# and in pieces of the input of the gate's programs.
 # Usage: scripts/fail-each-allocation.sh [SECONDS] [WHAT ..]
-# WHAT is `program`, a crate with tests, or a program of the gate; all of these if none is named.
-# SECONDS, 900 if left out, are dealt out among the runs, each getting its part of what is left. Where that isn't enough for
-# each allocation of a run, one of so many fails, as its line tells; of a program of the gate the first 24 pieces are run
-# (PIECES=N: N pieces), of which quick_pieces.py says that they have some of each part.
-# What is run is proved and built first, which takes no part of the time, by `rt test` and `rt run`; with BUILT=FOLDER it is
-# what stands in FOLDER/crates/*/out instead, and nothing is proved. Needs cc.
+#
+# Contracts leave open when memory runs out. This test shows that nothing else changes then. A run has to end as it does
+# without a failure, or in one of these ways:
+# - A test fails with an error for lack of memory.
+# - `show` ends with status 4 after the lines of whole units; `extract`, `merge` and `play` after whole pictures; a command
+#   that prints one result before it has printed anything.
+# - A program of the gate reports it in one line of output, or ends after a prefix of its lines.
+# Any other end is printed, and makes the status 1. The gate doesn't run it. It intercepts only calls of the C library.
+#
+# WHAT is `program`, a crate with tests, or a program of the gate; all of these by default. SECONDS (900 by default) are
+# divided among the runs. If the share of a run isn't enough for each of its allocations, only every Nth fails, and the
+# run's line has N. Of a program of the gate the first 24 pieces are run (PIECES=N: N pieces); quick_pieces.py sorts them so
+# that these have some of each part.
+# Everything is first proved and built by `rt test` and `rt run`, which doesn't count as time. With BUILT=FOLDER the programs
+# in FOLDER/crates/*/out are used instead, and nothing is proved. Needs cc.
 set -euo pipefail
 cd "$(dirname "$0")/.."
 work=$(mktemp -d)
@@ -24,7 +28,7 @@ gate='vx_calls vx_vectors vx_cases'
 neither=0 jobs=0 counting=1 input=/dev/null
 
 cat > "$work/fail.c" <<'C'
-// The allocations of the C library, of which the one whose number is FAIL_ALLOC gives nothing. COUNT tells how many.
+// Allocations of the C library, of which number FAIL_ALLOC fails. The file COUNT receives how many were made.
 #include <stdio.h>
 #include <stdlib.h>
 void *__libc_malloc(size_t);
@@ -41,22 +45,22 @@ __attribute__((destructor)) static void tell(void) {
 C
 cc -shared -fPIC -O1 -o "$work/fail.so" "$work/fail.c"
 
-# Runs a command whose n-th allocation fails, none for 0. Its status is in `status`, what it wrote in out and err.
+# Runs a command whose allocation $1 fails, or none for 0. `status` is its status; the files out and err have its output.
 run() {
   status=0
   { timeout 60 env FAIL_ALLOC="$1" COUNT="$work/count" LD_PRELOAD="$work/fail.so" "${@:2}" \
     < "$input" > "$work/out" 2> "$work/err" || status=$?; } 2> "$work/shell"
 }
 
-# ---- what want of memory may come to
+# ---- how a run may end if memory runs out
 
-# Whether `out` is a front of what is written else.
+# Checks that `out` is a prefix of the output without a failure.
 is_front() {
   length=$(stat -c %s "$work/out")
   cmp -s -n "$length" "$work/out" "$work/whole"
 }
 
-# Whether a test failed for want of memory: by its error, or by an answer that it compares with another.
+# Checks that a test failed for lack of memory: by its error, or by a result that it compares with another.
 test_wants() {
   case $status in
     101) head -1 "$work/err" | grep -qE '^error: (AllocError|AllocFailed|Memory|Kind\(OutOfMemory\))' ;;
@@ -65,29 +69,29 @@ test_wants() {
   esac
 }
 
-# Whether the program answered 4 after a front of what it writes, and with no other line.
+# Checks that the program ended with status 4 after a prefix of its output, and with no other line.
 program_wants() {
   [ "$status" = 4 ] && is_front && { [ ! -s "$work/err" ] || [ "$(cat "$work/err")" = "no memory" ]; }
 }
 
-# Whether it did so after whole lines.
+# Checks that it did so after whole lines.
 lines_want() {
   program_wants && [ -z "$(tail -c1 "$work/out")" ]
 }
 
-# Whether it did so and wrote nothing.
+# Checks that it did so and wrote nothing.
 nothing_wants() {
   program_wants && [ "$length" = 0 ]
 }
 
-# Whether it did so after whole pictures: `ends` has the places behind each.
+# Checks that it did so after whole pictures: `ends` has the place after each.
 stream_wants() {
   program_wants && [[ " 0 $ends " = *" $length "* ]]
 }
 
-# Whether a program of the gate ended for want of memory after a front of its lines (vx_vectors says of its own hexadecimal that it
-# can't be read), or went on and told of it in one line:
-# of a case whose status is 4, with a front of what it writes, or of a sink that grows.
+# Checks that a program of the gate ended for lack of memory after a prefix of its lines (vx_vectors then reports that its hexadecimal
+# can't be read), or that it continued and reported it in one line: that of a case with status 4 and a prefix of its output, or of a sink
+# that grows.
 gate_wants() {
   if [ "$status" != 0 ]; then
     is_front && [ "$(wc -l < "$work/err")" = 1 ] && grep -qiE '(memory allocation failed|out of memory|digits each, or too many)$' "$work/err"
@@ -105,7 +109,7 @@ gate_wants() {
 
 now() { echo "${EPOCHREALTIME/[.,]/}"; }
 
-# Has the n-th allocation of a command fail, and counts what comes of it, as WANTS judges.
+# Makes an allocation of a command fail, and counts how the run ends, as WANTS judges: NAME WANTS NUMBER COMMAND ..
 fail_one() {
   local name=$1 wants=$2 n=$3; shift 3
   run "$n" "$@"
@@ -118,7 +122,7 @@ fail_one() {
   fi
 }
 
-# Has allocations of a command fail: each, or as many as its part of the time allows, by how long the last one takes.
+# Makes allocations of a command fail: each, or as many as its share of the time allows, judged by the time of the last one.
 fail_each() {
   local name=$1 wants=$2 memory=0 ever=0 usual count begin part step=1 n; shift 2
   if [ "$counting" = 1 ]; then jobs=$((jobs + 1)); return; fi
@@ -140,7 +144,7 @@ build() {
   (cd "crates/$1" && rt "${@:2}" < /dev/null > "$work/log" 2>&1) || { tail -40 "$work/log"; exit 1; }
 }
 
-# Has allocations of each test of a crate fail.
+# Makes allocations of each test of a crate fail.
 fail_tests() {
   local tests=$built/crates/$1/out/$1_tests test
   build "$1" test
@@ -149,7 +153,8 @@ fail_tests() {
   done
 }
 
-# Has allocations of a program of the gate fail, in pieces of its input. What a case keeps isn't told, so these are left out.
+# Makes allocations of a program of the gate fail, in pieces of its input. Pieces that keep the output of a case are left out, because
+# that output isn't printed.
 fail_pieces() {
   local piece
   build "$1" run
@@ -162,8 +167,8 @@ fail_pieces() {
   input=/dev/null
 }
 
-# The streams that the program is run over: a stored one once, twice, three times, and before a broken unit; and a stored
-# merge three times, and before a broken unit.
+# Makes the streams that the program is run on: a stored one once, twice, three times, and before a broken unit; and a stored
+# merge three times, and that before a broken unit.
 make_streams() {
   local data=crates/vx_app/data broken='\0\0\1\x80\x79'
   one=$work/stored.266 twice=$work/twice.266 thrice=$work/thrice.266 refused=$work/refused.266
@@ -176,7 +181,7 @@ make_streams() {
   { cat "$merge"; printf "$broken"; } > "$cut"
 }
 
-# Has allocations of the commands over one file fail.
+# Makes allocations of the commands on one file fail.
 fail_single() {
   fail_each "show, a stored stream" lines_want "$program" show "$one"
   fail_each "show, a refused stream" lines_want "$program" show "$refused"
@@ -189,7 +194,7 @@ fail_single() {
   fail_each "check extract, a stored merge" nothing_wants "$program" check extract 1 "$merge"
 }
 
-# Has allocations of the commands over several files fail. An end of sequence, which stands before what is joined, has 6 bytes.
+# Makes allocations of the commands on several files fail. The end of sequence that is written before joined pictures has 6 bytes.
 fail_several() {
   fail_each "check merge, two stored streams" nothing_wants "$program" check merge "0,0=$twice" "64,0=$twice"
   fail_each "check merge, one above the other" nothing_wants "$program" check merge "0,0=$twice" "32,0=$twice"
@@ -204,7 +209,7 @@ fail_several() {
     "$program" play "0,0=$twice" "64,0=$one" "64,0=$refused"
 }
 
-# Has allocations of the program fail.
+# Makes allocations of the program fail.
 fail_program() {
   program=$built/crates/vx_app/out/vx_app
   build vx_app run -- show data/a.266
@@ -217,7 +222,7 @@ fail_program() {
   fi
 }
 
-# Has allocations of all that is named fail, or counts the runs that there are, behind building what they run.
+# Makes allocations of everything that is named fail. If `counting` is 1 it only builds what the runs need, and counts them.
 fail_all() {
   local name
   for name; do

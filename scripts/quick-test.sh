@@ -1,11 +1,11 @@
 #!/bin/bash
-# Runs stored cases of the gate without proofs and compares each answer. It begins with the checks of the documents.
+# Runs stored cases of the gate without proofs and compares each result. It begins with the checks of the documents.
 # Usage: scripts/quick-test.sh [SECONDS]     as many cases as fit into this time, 170 seconds by default, with the build
 #        scripts/quick-test.sh WORD ..       the cases that have one of these words, such as M8, verify or gray2, in at most 50 seconds
 #                                            after the build
 # A word is looked for in the comment above a case, in its command and the names of its files, and in the line that it has to report.
 # `rt try` builds the programs, with run-time checks, which takes one to two minutes. The pieces of the input that run first have some of
-# each part of it. The last lines say for each program how many answers are right, wrong and not tried, and end with `N passed, M failed`.
+# each part of it. The last lines say for each program how many results are right, wrong and not tried, and end with `N passed, M failed`.
 # Needs the Rattle kit's `rt` on the path.
 set -euo pipefail
 cd "$(dirname "$0")/.."

@@ -1,10 +1,11 @@
 #!/bin/bash
-# Runs the program so that it ends with each of its statuses, and compares the status, the line on standard error, and what is
-# written: that a merge of two different files is the stored one, that each file is opened by its name, that a failed write is
-# told, also the last one, and that want of memory is.
-# Usage: scripts/statuses.sh [PROGRAM]   (as scripts/install.sh puts it into a folder; without one each run is by `rt try`, of the
-# Rattle kit, without proofs: a minute or more each)
-# A line for each run; the last one is `N passed, M failed`. What needs a program is left out without one, and the other way round.
+# Runs the program so that it ends with each of its statuses, and compares the status, the line on standard error, and the output.
+# Usage: scripts/statuses.sh [PROGRAM]
+#
+# PROGRAM is the program as scripts/install.sh installs it. Without it each run is by the Rattle kit's `rt try`, without proofs, and takes a
+# minute or more. The runs show that a merge of two different files is the stored one, that each file is opened by its name, and that a
+# failed write, also the last one, and lack of memory are reported. Two runs to a full disk and one with an argument that isn't valid UTF-8
+# need PROGRAM; the run without memory needs `rt try`. It prints a line for each run; the last one is `N passed, M failed`.
 set -uo pipefail
 program=${1:-}
 [ -z "$program" ] || program=$(realpath "$program")
@@ -13,7 +14,7 @@ work=$(mktemp -d)
 trap 'rm -rf "$work"' EXIT
 passed=0 failed=0
 
-# Counts a run whose status is $2 and which is to end with $3, the line $4 on standard error and what stands in the file $5.
+# Counts run $1, whose status is $2: right with status $3, line $4 on standard error and the output in file $5.
 tell() {
     local name=$1 status=$2 line=$4
     if [ "$status" = "$3" ] && [ "$(head -n 1 "$work/err")" = "$line" ] && cmp -s "$work/out" "$5"; then
@@ -25,7 +26,7 @@ tell() {
     fi
 }
 
-# Runs the program on words, which are to end it with the status $1 and the line $2, with what stands in the file $3 written.
+# Runs the program with the arguments after $3. It has to end with status $1, line $2 and the output in file $3.
 ends() {
     local status=$1 line=$2 wanted=$3
     shift 3
@@ -35,7 +36,7 @@ ends() {
         rt try --data left.266=data/left.266 --data right.266=data/right.266 -- "$@" > "$work/out" 2> "$work/all"
     fi
     local came=$?
-    # `rt try` tells on standard error how the run went, too.
+    # `rt try` also reports on standard error how the run went.
     [ -n "$program" ] || grep -vE '^(checked|interpreter|run|allocations)[:=]' "$work/all" > "$work/err"
     tell "$*" "$came" "$status" "$line" "$wanted"
 }
