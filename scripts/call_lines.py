@@ -57,8 +57,8 @@ def refused_lines():
 
 
 def count_lines():
-    """Returns lines on picture order counts: of a CRA picture, of a second one, which later ones may refer to or not, of a third, and
-    of a CRA picture after an end of sequence; and the largest and the smallest count, and one beyond.
+    """Returns lines on picture order counts: of a CRA picture, of a second picture, which later ones may refer to or not, of a third,
+    and of a CRA picture after an end of sequence. The last lines have the largest and the smallest count, and one beyond.
     """
     yield "count 4,3 - 1 0 0", "3"
     yield "count 4,15 - 0 3 3", "-1"

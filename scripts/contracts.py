@@ -4,7 +4,7 @@
     scripts/contracts.py [--check]
 
 The page has the first sentence of each `//!` and `///`, and the names after `ensures`. It lists what other crates can name: what
-src/lib.rt declares by `pub mod` or `pub use`, and the public methods of these types. A law is a function of src/laws*.rt. Crates stand
+src/lib.rt declares by `pub mod` or `pub use`, and the public methods of these types. A law is a function of src/laws*.rt. Crates come
 after those that they use (crates.txt).
 
 With --check nothing is written, and the status is 1 if the page isn't what would be written.

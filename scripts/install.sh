@@ -1,6 +1,6 @@
 #!/bin/bash
 # Proves and builds the program, installs it in a folder as `goosequince`, and runs the commands of the guide with it. The man page goes
-# to share/man/man1 beside a folder bin, and otherwise into the folder itself. Each proved crate has a line on standard error.
+# to share/man/man1 next to a folder bin, and otherwise into the folder itself. Each proved crate has a line on standard error.
 # Usage: scripts/install.sh DIR [JOBS]   (needs the Rattle kit's `rt` on the path; JOBS checks run at once, by default one a processor)
 set -euo pipefail
 case $# in 1|2) ;; *) echo "usage: scripts/install.sh DIR [JOBS]" >&2; exit 2;; esac

@@ -3,10 +3,10 @@
 
 usage: scripts/measure.py NAME [--bytes N] [--per N WORD] -- COMMAND ..
 
-Both are of the command's own process, from its first instruction to its end: its clock, and VmHWM at its end, where ptrace stops it.
-(ru_maxrss of an ended child includes the memory of the measuring program.) With --bytes it also prints the rate for N bytes, and
-with --per the time for each of N things. Figures that a page shows go into docs/measured by hand, with commit, kit, machine, date
-and load; scripts/speed-chart.py makes the tables.
+Both figures cover only the command's own process, from its first instruction to its end. They are its clock, and VmHWM at its end, where
+ptrace stops it. (ru_maxrss of an ended child includes the memory of the measuring program.) With --bytes it also prints the rate for N
+bytes, and with --per the time for each of N things. Figures that a page shows go into docs/measured by hand, with commit, kit, machine,
+date and load; scripts/speed-chart.py makes the tables.
 """
 import ctypes
 import os

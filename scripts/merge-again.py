@@ -3,15 +3,19 @@
 
 usage: scripts/merge-again.py PROGRAM COUNT [STREAMS [MERGES]]
 
-PROGRAM is the built program. The sets are those of small_streams.py with the numbers below COUNT, one to nine streams each; the families
-of real streams of the folder STREAMS; and the sources of the merges in MERGES that aren't refused, a file like merge.txt of
-scripts/make-cases.py.
+PROGRAM is the built program. The sets are:
+- those of small_streams.py with the numbers below COUNT, one to nine streams each;
+- the families of real streams of the folder STREAMS;
+- the sources of the merges in MERGES that aren't refused, a file like merge.txt of scripts/make-cases.py.
 
-These are compared: how many pictures there are, and of each picture the type of its slices, its TemporalId, whether it starts a coded
-layer video sequence, its picture order count, whether an end of sequence comes before it, its messages, and how many subpictures and
-slices it has. Of small streams all this is also compared with what they were written from, as is the data of each slice. All regions
-are merged again to the same bytes. `verify merge` has to confirm that the merge is that of its sources, that each extraction is its
-source, and the same of what `--tid 0` leaves of both.
+The number of pictures is compared, and of each picture:
+- the type of its slices, its TemporalId, and its picture order count;
+- whether it starts a coded layer video sequence, and whether an end of sequence comes before it;
+- its messages, and how many subpictures and slices it has.
+
+For small streams all this is also compared with what they were written from, as is the data of each slice. All regions are merged again to
+the same bytes. `verify merge` has to confirm that the merge is that of its sources, that each extraction is its source, and the same of
+what `--tid 0` leaves of both.
 
 The status is 1 if anything differs. Bodies of adaptation parameter sets, reference picture lists, QPs and the rest of what headers mean
 are only compared by `verify`.

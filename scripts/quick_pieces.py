@@ -2,17 +2,17 @@
 """Cuts the stored input of a test program into pieces that run alone, and compares their output with the stored one.
 
     quick_pieces.py cut CRATE FOLDER .. [--words WORD ..]      writes the pieces to the folders, in turn, a file for each
-    quick_pieces.py compare CRATE FILE .. [--words WORD ..]    counts the answers in the files, where a line `== NAME` begins each piece
+    quick_pieces.py compare CRATE FILE .. [--words WORD ..]    counts right results in the files, in which a line `== NAME` begins each piece
 
 The names of the files sort so that the first few pieces have some of each part of the input. With --words only the cases are taken that
 have one of these words, whatever its case: in the comment above them, in their command and the names of their files, or in the status
 and the line that they have to report.
 
-Input and answers are crates/CRATE/stdin and stdout. In vx_cases each line `case`, `pushed` or `generated` has one answer. In vx_calls
-each line has one, except empty lines and comments. In vx_vectors the answers to a stream and to the questions about it begin with its line
-`stream`. A piece of vx_cases begins with the streams that it names and the cases whose output it names.
+Input and expected output are crates/CRATE/stdin and stdout. In vx_cases each line `case`, `pushed` or `generated` has one line of output.
+In vx_calls each line has one, except empty lines and comments. In vx_vectors the output for a stream and for the lines about it begins with
+its line `stream`. A piece of vx_cases begins with the streams that it names and the cases whose output it names.
 
-`compare` prints `N passed, M failed, K not tried`, and each wrong answer on standard error. Its status is 1 if none was tried.
+`compare` prints `N passed, M failed, K not tried`, and each wrong result on standard error. Its status is 1 if none was tried.
 """
 import pathlib
 import re
@@ -77,7 +77,7 @@ def call_items(given, answers):
 
 
 def vector_items(given, answers):
-    """Returns the lines of vx_vectors before its first stream, and each stream with the questions about it."""
+    """Returns the lines of vx_vectors before its first stream, and each stream with the lines about it."""
     first = next((k for k, line in enumerate(given) if line.startswith("stream ")), len(given))
     for line in given[:first]:
         yield Item([line], [next(answers)], text=line)

@@ -4,16 +4,22 @@
 usage: scripts/read-again.py PROGRAM COUNT [FOLDER]
 
 PROGRAM is the built program. The streams are those of small_streams.py with the numbers below COUNT, and the files *.vvc of FOLDER. Of each
-picture of an extraction these are compared: the type of its slices, its TemporalId, whether it starts a coded layer video sequence, its
-picture order count, whether an end of sequence comes before it, that it has one subpicture, and as many slices as the source's; its
-picture header and its slices byte for byte, found by the lengths and places that are shown; the unit of its messages.
+picture of an extraction these are compared:
+- the type of its slices, its TemporalId, and its picture order count;
+- whether it starts a coded layer video sequence, and whether an end of sequence comes before it;
+- that it has one subpicture, and as many slices as the source's;
+- its picture header and its slices byte for byte, found by the lengths and places that are shown;
+- the unit of its messages.
 
-Of small streams also these are compared: the size, the tile columns and rows and the slices of the sets that are shown last, the statuses
-and lines of E2 to E4, and what `--tid 0` leaves out. All of it is compared with what the stream was written from, as is what is shown of
-the source. Subpicture 0 of each extraction is extracted again, to the same bytes. The status is 1 if anything differs.
+For small streams these are compared too: the size, the tile columns and rows and the slices of the sets that are shown last; the statuses
+and lines of E2 to E4; and what `--tid 0` leaves out. All of it, and what is shown of the source, is compared with what the stream was
+written from. Subpicture 0 of each extraction is extracted again, to the same bytes. The status is 1 if anything differs.
 
-`show` doesn't print the following, so it isn't compared: the other fields of the sets, which are written anew; whether the adaptation
-parameter sets in force have the same bodies; reference picture lists, QPs and what else a header means under these sets; the samples.
+Some things aren't compared, because `show` doesn't print them:
+- the other fields of the sets, which are written anew;
+- whether the adaptation parameter sets in force have the same bodies;
+- reference picture lists, QPs and what else a header means under these sets;
+- the samples.
 """
 import glob
 import os

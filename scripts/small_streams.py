@@ -1,9 +1,9 @@
 """Small VVC byte streams (H.266, Annex B) by number: `Stream(seed)` has the bytes, and what each picture was written from.
 
 The bits are written here field by field, in the order of the syntax tables of clause 7.3, with names from the standard. A stream has up
-to three coded layer video sequences of up to five pictures each, with tiles, subpictures and slices that are drawn anew for a sequence;
-sublayers, reference picture lists, weights, adaptation parameter sets of the three types, extensions, entry points, messages, ends of
-sequences, and units that readers drop. One layer, 4:0:0 or 4:2:0, 8 to 10 bits.
+to three coded layer video sequences of up to five pictures each. Tiles, subpictures and slices are drawn anew for each sequence. Streams
+have sublayers, reference picture lists, weights, adaptation parameter sets of the three types, extensions, entry points, messages, ends of
+sequences, and units that readers drop. They have one layer, 4:0:0 or 4:2:0, and 8 to 10 bits.
 
 `Steady(seed, names)` is a stream of one sequence that can be merged with others of its number: pictures of one subpicture and one
 slice, each with the PPS that is named. `Sibling(seed, number)` is one of several with data, messages, QPs and ids of their own.

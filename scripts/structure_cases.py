@@ -164,7 +164,7 @@ SPS_ROWS = [
     ("00030233800000820412003de00300608004008020", outside(228, 142)),
 ]
 
-# 1,000 subpictures of one CTU each, 40 beside one another, with their indices as ids.
+# 1,000 subpictures of one CTU each, 40 side by side, with their indices as ids.
 THOUSAND_SPS = "000102338000000a0200c85007d1800a003de00600c10002"
 
 

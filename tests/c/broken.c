@@ -40,8 +40,8 @@ static void splice(bytes *stream, size_t at, size_t len, const void *from, size_
 }
 
 /*
- * Changes a stream in one place: flips a bit, replaces a byte, cuts the stream, drops or inserts bytes, inserts a start code, drops or
- * doubles a unit, or replaces a unit by one of another stream.
+ * Changes a stream in one place. It flips a bit, replaces a byte, cuts the stream, drops or inserts bytes, inserts a start code, or drops,
+ * doubles or exchanges a unit.
  */
 static void break_it(bytes *stream, const bytes *other) {
     size_t at = below(stream->len), len = below(stream->len - at < 9 ? stream->len - at + 1 : 9);
