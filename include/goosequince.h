@@ -57,7 +57,7 @@ uint32_t gq_version(void);
 enum gq_status {
     GQ_DONE = 0,      /* the call is done */
     GQ_REFUSED = 1,   /* a rule is broken; the line names it and its place */
-    GQ_MISUSED = 2,   /* arguments that aren't understood or out of range, or a call that the handle can't do */
+    GQ_MISUSED = 2,   /* arguments that aren't understood or are out of range, or a call that the handle can't do */
     GQ_NO_ROOM = 3,   /* too little room */
     GQ_NO_MEMORY = 4, /* out of memory */
     GQ_WAITS = 5,     /* a source needs bytes */
