@@ -1,2 +1,4 @@
+mod Arrays
 mod FieldsText
 mod PictureText
+mod SliceText

@@ -3,4 +3,5 @@ pub mod FieldsLine
 pub mod PictureLine
 pub mod RefusalLine
 pub mod SetLine
+pub mod SliceLine
 pub mod UnitLine

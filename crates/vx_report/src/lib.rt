@@ -11,10 +11,12 @@ mod fields;
 mod picture;
 mod refusal;
 mod set;
+mod slice;
 mod unit;
 
 pub use fields::fields_line;
 pub use picture::{PictureNumbers, picture_line};
 pub use refusal::{Where, refusal_line};
 pub use set::{SetNumbers, set_line};
+pub use slice::{SliceNumbers, slice_line};
 pub use unit::unit_line;
