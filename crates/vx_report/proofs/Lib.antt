@@ -1,4 +1,5 @@
 mod Arrays
 mod FieldsText
+mod InputsText
 mod PictureText
 mod SliceText

@@ -8,6 +8,7 @@
 #![tactic(auto)]
 
 mod fields;
+mod inputs;
 mod picture;
 mod refusal;
 mod set;
@@ -15,6 +16,7 @@ mod slice;
 mod unit;
 
 pub use fields::fields_line;
+pub use inputs::input_lines;
 pub use picture::{PictureNumbers, picture_line};
 pub use refusal::{Where, refusal_line};
 pub use set::{SetNumbers, set_line};
