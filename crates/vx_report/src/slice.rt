@@ -24,12 +24,12 @@ use vx_pic::{AlfInForce, DecodingInput, Picture, Place};
 use vx_rpl::{RefEntry, RefList, RefLists};
 use vx_table::natural;
 
-/// The numbers that tell which slice of a stream it is.
+/// The numbers that identify a slice of a stream.
 #[derive(Clone, Copy, Debug, PartialEq, Eq)]
 pub struct SliceNumbers {
-    /// How many pictures came before its picture.
+    /// The number of pictures before its picture.
     pub picture: u64,
-    /// How many slices of its picture came before it.
+    /// The number of slices of its picture before it.
     pub slice: u32,
     /// The index of its subpicture.
     pub subpicture: u32,
@@ -41,7 +41,7 @@ impl SliceNumbers {
     ghost use Rattle.std.specs.Prelude.{◌≡◌, ◌<◌, length, slice_get, IfSome};
     ghost use Rattle.vx_report.specs.SliceLine.{slice_numbers};
 
-    /// Returns the numbers of slice `i` of a picture, before which there were `before`.
+    /// Returns the numbers of slice `i` of a picture after `before` others.
     pub fn of(before: u64, picture: &Picture<'_>, i: u32) -> SliceNumbers
         requires { i < length picture.now.slices }
         ensures { IfSome (slice_get picture.now.slices i) (λ s. result ≡ slice_numbers before picture.now i s) }
@@ -58,7 +58,7 @@ impl SliceNumbers {
 
 /// Makes the JSON line of a slice with its decoding input, with a line feed.
 ///
-/// It has what says how the slice is predicted and its QPs, what is in force, the payload, and the place of the slice in its
+/// It has the slice's type, active reference entries and QPs, the data in force, the payload, and the slice's place in its
 /// subpicture. Bodies and the payload are given by their length and MD5 digest. *Errors:* [`AllocError`] if memory runs out.
 pub fn slice_line(
     alloc: Global,
