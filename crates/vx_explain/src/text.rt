@@ -1,39 +1,40 @@
 //! What `--explain` prints of rules and fields, as `scripts/explanations.py` makes it of docs/REFUSALS.md and docs/generated/FIELDS.md.
 
 /// The parts, with a bar between two. Each begins with its word and a blank, and is what is printed for this word.
-pub(crate) static TEXT: [u8; 70065] =
+pub(crate) static TEXT: [u8; 70234] =
     *b"F1 Cause: A byte outside a unit is neither zero nor part of a start code. The
    file isn't an Annex B byte stream, or begins inside a unit.
    Fix: Take the stream out of its container (MP4, TS), or cut it at a start
    code.
-|F2 Cause: A byte stands where emulation prevention rules it out: 00, 01 or 02
+|F2 Cause: A byte occurs where emulation prevention forbids it: 00, 01 or 02
    after 00 00, or more than 03 after 00 00 03.
    Fix: Write the unit again, with 03 after each 00 00 that needs it.
 |F3 Cause: A unit has no header of two bytes, or its header has
    forbidden_zero_bit 1 or nuh_temporal_id_plus1 0.
-   Fix: Cut files before start codes. H.265 and H.264 have other headers.
+   Fix: Cut files only just before a start code. H.265 and H.264 units have
+   different headers.
 |Y The syntax of sets and headers: `Y source 0 unit 0 field 22 bit 40 Short`.
   `field` is the syntax element that can't be read; `--explain` names it.
   `bit` is where it begins in the RBSP, after the two header bytes and without
   emulation prevention bytes.
   Short
     Cause: The bits end within the field.
-    Fix: The unit was cut, or isn't of version 1 of H.266: send the whole
-    unit, without extensions.
+    Fix: Send the whole unit, without extensions: it was cut off, or isn't
+    version 1 of H.266.
   LongCode
-    Cause: An Exp-Golomb code begins with 32 zeros, and no number of H.266 is
+    Cause: An Exp-Golomb code begins with 32 zeros, and no value in H.266 is
     that large.
     Fix: Look for a wrong value in the fields before it, with `show --fields`.
   BadTrailing, BadAlignment
-    Cause: The bits that end or align the structure aren't a one and zeros, or
-    zeros.
+    Cause: The trailing bits aren't a 1 followed by zeros, or the alignment
+    bits aren't what they must be.
     Fix: It has fields of a later version, or bytes were added: leave these
     out.
   OutOfRange
     Cause: The field has a value that it may not have.
     Fix: Change the encoder's option for this field.
 |P1 Cause: A unit belongs to a layer above 0.
-   Fix: Take the base layer out of the stream first.
+   Fix: Extract the base layer first.
 |P2 Cause: An SPS refers to a VPS, so the stream may have several layers.
    Fix: Encode with sps_video_parameter_set_id 0.
 |P3 Cause: An SPS has no profile, tier and level: it belongs to a further
@@ -58,24 +59,24 @@ pub(crate) static TEXT: [u8; 70065] =
     Fix: Encode without one.
 |P12 Cause: Slices are runs of tiles in raster order.
     Fix: Encode rectangular slices (pps_rect_slice_flag 1).
-|P13 Cause: A PPS turns reference wraparound on.
-    Fix: Turn it off: a subpicture's own borders end its references.
+|P13 Cause: A PPS enables reference wraparound.
+    Fix: Turn it off: references stop at a subpicture's own borders.
 |P14 Cause: A PPS has extension data.
     Fix: Encode without range extensions (version 1 of H.266).
 |P15 Cause: An adaptation parameter set has an id above those of its type: 0 to
     3 for LMCS, 0 to 7 for the others.
-    Fix: The encoder broke the standard: use ids in this range.
-|S1 Cause: A set that is referred to hasn't come. The line ends with its kind
-   and id, such as `PPS 3`.
-   Fix: Send the set before the picture that needs it. The stream begins after
-   its sets, or lost a unit.
-|S2 Cause: A slice comes where no picture has begun, or after all slices of its
-   picture.
+    Fix: The encoder violates the standard: use ids in this range.
+|S1 Cause: A parameter set that is referred to is missing. The line ends with
+   its kind and id, such as `PPS 3`.
+   Fix: Send the set before the picture that needs it: the stream begins after
+   its sets, or a unit was lost.
+|S2 Cause: A slice appears where no picture has begun, or after all slices of
+   its picture.
    Fix: Send each picture header before its slices, and each slice once.
 |S3 Cause: An SPS, a PPS or a prefix APS comes between the slices of a picture.
    Fix: Send it before the picture. A suffix APS may stand there.
 |S4 Cause: A picture lacks a slice: the next picture, an end of sequence or the
-   end of the stream comes, or another slice than the next one.
+   end of the stream comes, or a slice other than the next one.
    Fix: Send all slices, in the order of subpictures and addresses.
 |S5 Cause: A slice names a subpicture that the picture doesn't have.
    Fix: Send the SPS and PPS that the slice was encoded with.
@@ -85,63 +86,65 @@ pub(crate) static TEXT: [u8; 70065] =
 |S7 Cause: The SPS changes within a coded layer video sequence.
    Fix: Change it at an IDR picture, or at a CRA or GDR picture after an end
    of sequence.
-|S8 Cause: A slice has another NAL unit type than the first slice of its
-   picture.
+|S8 Cause: A slice's NAL unit type differs from that of the picture's first
+   slice.
    Fix: Encode all slices of a picture with one type.
-|S9 Cause: A slice has another TemporalId than its picture.
+|S9 Cause: A slice's TemporalId differs from its picture's.
    Fix: Give all units of a picture one TemporalId.
-|S10 Cause: The width or the height of a PPS isn't its SPS's.
+|S10 Cause: The width or the height of a PPS differs from its SPS's.
     Fix: Send the SPS and PPS that belong together. A new size needs a new
     sequence.
 |S11 Cause: No byte follows a slice header.
     Fix: Send the whole slice.
-|S12 Cause: Tiles, slices and subpictures don't make up a layout. The line ends
-    with the fault's number.
+|S12 Cause: Tiles, slices and subpictures don't form a valid layout. The line
+    ends with the fault's number.
     Fix: Send the SPS and PPS that belong together. The faults are:
     - 1: the CTU sizes of both sets differ;
     - 2: subpicture ids are in the wrong set, too few, too short or not all
       different;
-    - 3: the subpictures don't cover the picture once;
-    - 4: a tile and a subpicture cut each other;
-    - 5: the slices don't cover the picture once;
+    - 3: the subpictures don't cover the picture exactly once;
+    - 4: a tile and a subpicture overlap partly;
+    - 5: the slices don't cover the picture exactly once;
     - 6: a slice isn't within one subpicture;
     - 7: a slice comes before one to its left or above it.
 |S13 Cause: A picture order count doesn't fit in 32 bits.
-    Fix: The encoder broke the standard: begin a new sequence before that.
+    Fix: The encoder violates the standard: begin a new sequence before that.
 |S14 Cause: SliceQpY is below -QpBdOffset or above 63.
     Fix: Send the PPS that the slice was encoded with (pps_init_qp_minus26).
-|S15 Cause: The picture header is inside a slice of a picture that has several.
+|S15 Cause: The picture header is inside a slice, but the picture has several
+    slices.
     Fix: Send the picture header as a unit of its own.
 |L1 Cause: A unit has more than 2^23 bytes, or a merge would write such a unit.
    Fix: Use more slices. If a start code was lost, restore it.
 |L2 Cause: The header and the slices of a picture, of a source or merged, have
    more than 2^25 bytes.
    Fix: Encode at a lower rate, or merge fewer sources.
-|L3 Cause: A source, or what a merge would write, has more than 2^40 bytes.
+|L3 Cause: A source, or the output of a merge, has more than 2^40 bytes.
    Fix: Cut the stream at random access points.
-|L4 Cause: More than 64 sources are named to be merged or compared, or more
-   than 64 regions to be played. Nothing is read.
+|L4 Cause: The arguments name more than 64 sources for `merge` or `verify`, or
+   more than 64 regions for `play`. Nothing is read.
    Fix: Name at most 64. A merged stream can't be merged again (M1).
 |L5 Cause: A picture, or all sources of a merge together, have more than 1,000
    slices.
-   Fix: Use fewer: the levels of H.266 go up to 1,000.
+   Fix: Use fewer: the levels of H.266 allow at most 1,000.
 |L6 Cause: A picture, or the frame of a merge, is wider or higher than 16,384
    luma samples.
    Fix: Encode smaller pictures, or merge fewer.
 |L7 Cause: A reference picture list structure has more than 29 entries.
-   Fix: The encoder broke the standard: H.266 allows at most MaxDpbSize + 13.
+   Fix: The encoder violates the standard: H.266 allows at most MaxDpbSize +
+   13.
 |L8 Cause: An SPS has more than 64 reference picture list structures for one
    list.
-   Fix: The encoder broke the standard: send further structures in headers.
+   Fix: The encoder violates the standard: send further structures in headers.
 |L9 Cause: A picture has more than 1,000 subpictures.
-   Fix: Use fewer: each has at least one slice, and the levels of H.266 go up
-   to 1,000 slices.
+   Fix: Use fewer: each has at least one slice, and the levels of H.266 allow
+   at most 1,000 slices.
 |L10 Cause: The SEI messages carried with a picture (mastering display colour
     volume, content light level, alternative transfer characteristics) have
     more than 65,536 bytes.
     Fix: Send each message once for a picture: each is only a few bytes long.
-|L11 Cause: More than 256 files are named to be played. Nothing is read, and L4
-    is checked first.
+|L11 Cause: The arguments name more than 256 files for `play`. Nothing is read,
+    and L4 is checked first.
     Fix: Put several segments into one file, each after an end of sequence.
 |E1 Cause: The source has no picture.
    Fix: Use a stream with pictures: `show` lists what the source has.
@@ -157,7 +160,7 @@ pub(crate) static TEXT: [u8; 70065] =
    independent subpictures.
 |E5 Cause: `--tid` would leave out an IRAP or GDR picture, and what follows it
    couldn't be decoded.
-   Fix: Keep more sublayers: such pictures mostly have TemporalId 0.
+   Fix: Keep more sublayers: such pictures usually have TemporalId 0.
 |M1 Cause: The source's pictures have several subpictures, and only whole
    pictures are merged.
    Fix: Take a subpicture out with `extract` first.
@@ -167,8 +170,8 @@ pub(crate) static TEXT: [u8; 70065] =
    Fix: Encode all sources with one configuration of tools, bit depth, chroma
    format and CTU size.
 |M3 Cause: The regions don't make up a frame. This region's corner isn't a
-   multiple of the CTU size, or the region overlaps a region before it. With
-   source 0, there may be a gap instead.
+   multiple of the CTU size, or the region overlaps a region before it. If the
+   source is 0, there may be a gap instead.
    Fix: Put corners on multiples of the CTU size, without gaps and overlaps:
    `show` prints CTU size, width and height. A source whose size isn't such a
    multiple goes to the frame's right or lower border.
@@ -179,53 +182,54 @@ pub(crate) static TEXT: [u8; 70065] =
    through this region where it has none. Or this region's upper border can't
    be a tile border of the frame, and the file named just before isn't the
    region directly above it with the same left and right borders.
-   Fix: Encode the sources with the tiles that the frame needs. Or give the
-   sources below one another one tile each, and name them one after the other.
-|M6 Cause: The NAL unit type of source K's picture, its TemporalId, or whether
-   an end of sequence precedes it differs from source 0's.
+   Fix: Encode the sources with the tiles that the frame needs. Or give
+   sources that lie below one another a single tile each, and name them
+   consecutively.
+|M6 Cause: Source K's picture differs from source 0's in its NAL unit type, its
+   TemporalId, or whether an end of sequence precedes it.
    Fix: Encode all sources with one structure of pictures. In a joined round
    only the type has to be equal, such as IDR_N_LP in all regions.
-|M7 Cause: Source K's PPS differs from source 0's in the field that is named,
-   on which decoding slices depends.
+|M7 Cause: Source K's PPS differs from source 0's in the named field, which the
+   decoding of slices depends on.
    Fix: Encode all sources with one configuration.
-|M8 Cause: Source K's picture header differs in the field that is named, on
-   which decoding slices depends. Encoders choose some by the picture's
+|M8 Cause: Source K's picture header differs in the named field, which the
+   decoding of slices depends on. Encoders choose some by the picture's
    content: ph_joint_cbcr_sign_flag (643), deblocking and SAO flags, the
    collocated picture, limits of block partitioning. Field 606 says that the
    low bits of the picture order count differ.
    Fix: Turn such choices off, or fix them. For field 643, turn JointCbCr off,
    or take the sign from the slice type, not the residuals. Take deblocking,
    SAO and partitioning limits from a fixed configuration. For field 606, let
-   all encoders begin each segment with the same ph_pic_order_cnt_lsb, mostly
-   0: nothing numbers pictures anew.
+   all encoders begin each segment with the same ph_pic_order_cnt_lsb, usually
+   0: the program doesn't renumber pictures.
 |M9 Cause: Source K's LMCS model or scaling lists differ from those of the
    first source that has any.
-   Fix: One picture has one of each: turn LMCS off or fix its model, and use
-   one scaling matrix.
+   Fix: A picture can have only one of each: turn LMCS off or fix its model,
+   and use one scaling matrix.
 |M10 Cause: The reference picture lists of source K's first slice differ from
     source 0's.
     Fix: Encode all sources with one structure of pictures.
-|M11 Cause: sh_no_output_of_prior_pics_flag differs from the round's first
-    slice. At an IRAP or GDR picture it says whether earlier pictures are
-    still output.
+|M11 Cause: sh_no_output_of_prior_pics_flag differs from its value in the
+    round's first slice. At an IRAP or GDR picture it says whether earlier
+    pictures are still output.
     Fix: Encode all sources with the same value.
-|M12 Cause: With this source the picture needs more than 8 adaptive loop filter
-    sets, where one that several slices use counts once.
+|M12 Cause: With this source the picture needs more than 8 different adaptive
+    loop filter sets. A set that several slices use counts once.
     Fix: Let each source use fewer, or turn the filter off in some.
 |M13 Cause: Whether in-loop filters cross the borders of tiles, or of slices,
     differs among the sources that have several.
-    Fix: One PPS holds for all: turn filters across tiles, and across slices,
+    Fix: One PPS applies to all: turn filters across tiles, and across slices,
     on in all sources or off in all.
-|M14 Cause: The source ended while another went on.
-    Fix: Cut all sources to the same number of pictures. For `play`, cut all
-    regions so; their files may be cut at different places.
+|M14 Cause: The source ended while another continued.
+    Fix: Cut all sources to the same number of pictures. For `play`, this
+    applies to whole regions; their files may be cut at different places.
 |M15 Cause: The round is joined, and the region's picture can't begin there: it
     starts no coded layer video sequence, has a TemporalId above 0, or isn't a
     reference picture (ph_non_ref_pic_flag).
     Fix: Where a file begins, give all regions an IDR picture with TemporalId
     0. A CRA picture inside a file starts no sequence.
-|M16 Cause: One of source K's slices predicts motion from another picture
-    (sh_collocated_ref_idx) than the round's first slice that names one.
+|M16 Cause: A slice of source K names a different collocated picture
+    (sh_collocated_ref_idx) from the round's first slice that names one.
     Fix: A picture has one collocated picture. Encode the choice in the
     picture header, or fix it, for instance to the first entry of list 0. Let
     the lists of all sources agree.
@@ -241,7 +245,7 @@ pub(crate) static TEXT: [u8; 70065] =
    slices.
    Fix: Name the file that belongs here. If a slice was lost or cut anew, make
    OUT again.
-|C4 Cause: A slice has another decoding input than in the source. `slice` is
+|C4 Cause: A slice has a different decoding input from the source's. `slice` is
    its address in the subpicture, `part` what differs first, and `field`, for
    parts 2 to 5, the first field that differs (otherwise 0).
    Fix: It depends on the part:
@@ -262,7 +266,7 @@ pub(crate) static TEXT: [u8; 70065] =
      among them, or filters across their borders: the file belongs elsewhere,
      or another source's tile border runs through its region.
    - part 12, the bytes after the slice header: encoded anew, damaged or cut.
-|C5 Cause: This file, the lowest one, ended while another went on.
+|C5 Cause: This file, the lowest one, ended while another continued.
    Fix: A picture is missing in a file: `show` lists those of each.
 |1 vps_video_parameter_set_id: The id of the video parameter set.
 A field of a video parameter set, clause 7.3.2.3. It isn't compared between
