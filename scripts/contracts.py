@@ -24,15 +24,20 @@ HEAD = """\
 
 For contributors and reviewers. This page lists what each crate offers: its types, functions and laws, each with the first sentence of its description and the names of its clauses.
 
-A clause `ensures NAME` in `src/` says in full what a function does. A short clause without a name is listed in full, and of a longer one the first definition that it uses. Crates stand after those that they use. [ARCHITECTURE](../ARCHITECTURE.md) shows how the data flows through them.
+A clause `ensures NAME` in `src/` says in full what a function does. A short clause without a name is listed in full, and of a longer one the first definition by which it differs from other clauses. Crates stand after those that they use. [ARCHITECTURE](../ARCHITECTURE.md) shows how the data flows through them.
 
 """
 ITEM = re.compile(
     r'^( *)(?:(pub) )?(?:(?:const|unsafe|extern "C") )*(fn|struct|enum|trait|type) (\w+)|^(impl)\b(?:<[^>]*>)? (.*?) \{|^}'
 )
-ENSURES = re.compile(r"\bensures(?: (\w+))? (?=\{)")
-# A clause without a name is shown on the page if it has at most this many characters.
-SHORT = 60
+# What opens or closes in a signature, and what ends it; a clause opens with its keyword.
+MARK = re.compile(r"\b(requires|ensures)(?: (\w+))?\s+\{|[{(\[\])};]")
+# A link with its text: code, or words with an address. Brackets within code are code.
+LINK = re.compile(r"\[(`[^`]*`)\](?:\([^)]*\))?|(`[^`]*`)|\[([^\]]*)\]\([^)]*\)")
+# A clause without a name that is at most so long stands on the page itself.
+SHORT = 120
+# Definitions that many clauses use, so that their names say nothing of one of them.
+GENERAL = {"AreOfH266", "IfOk", "IsTrue", "List", "MatchOption", "Message", "None", "OnOk", "Place", "Readers", "Reading", "SetUnit", "Some"}
 
 
 @dataclass
@@ -71,8 +76,8 @@ def in_order(used):
 
 
 def sentence(text):
-    """Returns the first sentence of a description, with its full stop and without links."""
-    text = re.sub(r"\[(`[^`]*`|[^\]]*)\](?:\([^)]*\))?", r"\1", text)
+    """The first sentence of a description, with its point, and without links."""
+    text = LINK.sub(lambda m: m[1] or m[2] or m[3], text)
     first = re.split(r"(?<=[^.]\.)(?: (?=[A-Z`(0-9*\[])|$)", text.strip(), maxsplit=1)[0].strip()
     return first if not first or first.endswith((".", ":")) else f"{first}."
 
@@ -106,25 +111,21 @@ def heading(crate):
 
 
 def clauses(text):
-    """Returns the names of the clauses of a function, given the text from its signature on. A clause without a name has the name that
-    it uses first.
-    """
-    end = re.search(r"^ *\{|;$|\{\}$| \{$(?!\n *(?:requires|ensures))", text, re.M)
-    text = text[: end.start()] if end else text
-    for m in ENSURES.finditer(text):
-        body = " ".join(inner(text, m.end()).split())
-        used = re.search(r"\b[A-Z]\w+", body)
-        yield m[1] or (body if len(body) <= SHORT or not used else used[0])
-
-
-def inner(text, at):
-    """Returns the text between the brace at a place and the one that closes it."""
+    """The names of the clauses of a function, from its signature on; without a name, the clause or what it uses first."""
     depth = 0
-    for m in re.compile(r"[{}]").finditer(text, at):
-        depth += 1 if m[0] == "{" else -1
+    opened = None
+    for m in MARK.finditer(text):
+        if not depth and m[0] in "{;":
+            return
+        if not depth and m[1]:
+            opened = m
+        depth += 1 if m[0][-1] in "{([" else -1 if m[0] in "})]" else 0
+        if not depth and opened and opened[1] == "ensures":
+            body = " ".join(text[opened.end() : m.start()].split())
+            used = [word for word in re.findall(r"\b[A-Z][a-z]\w*", body) if word not in GENERAL]
+            yield opened[2] or (used[0] if used and len(body) > SHORT else body)
         if not depth:
-            return text[at + 1 : m.start()].strip()
-    return ""
+            opened = None
 
 
 def items(path):
