@@ -85,10 +85,13 @@ def lines():
     for crate, row in sorted(gate.items(), key=lambda it: -sum(seconds(it[1], part) for part in PARTS)):
         yield f"| `{crate}` | " + " | ".join(said(row[it]) for it in (*PARTS, "memory")) + " |"
     sums = {part: sum(seconds(row, part) for row in gate.values()) for part in PARTS}
-    yield "| sum, processor minutes | " + " | ".join(f"{sums[part] / 60:.0f}" if sums[part] else "" for part in PARTS) + " | |"
+    yield "| sum of these, processor minutes | " + " | ".join(f"{sums[part] / 60:.0f}" if sums[part] else "" for part in PARTS) + " | |"
     yield ""
     crates, length = longest_chain(deps, gate)
-    yield f"The longest chain of `crates.txt` by these proofs takes {length:,} s: {', '.join(f'`{it}`' for it in crates)}. With one job for each check, no number of processors makes the proofs shorter than this."
+    yield f"Crates that use one another are proved one after another. The longest such chain takes {length:,} s by these figures: {', '.join(f'`{it}`' for it in crates)}."
+    yield "With one job for each check, the proofs take at least this long, however many processors there are."
+    if any(not seconds(row, "proof") for row in gate.values()):
+        yield "A proof without a figure counts as nothing in the sums and in the chain."
 
 
 def main():
