@@ -211,9 +211,9 @@ module _ {A K E : Type 0} (merge_once : EndsOnce) (play_once : PlayEndsOnce) (ve
     (runs : Runs words sources out status err) (names : NamesFiles words (length sources.old)) where
   -- what it comes to, faults and want of memory aside
   pub status_exact : (command : Command) → AskFor words command → ¬ PlacesTooMany command → HaveNoFault sources out → status ≢ 4 → HasStatus command sources status
-  status_exact (show fields file) asks few fine fits = λ R of.
-      let first = fine.reads 0 (names-file words (length sources.old) names (show fields file) asks (omega arith)) in
-      shown-status R (source_at sources 0) out status err first fine.writes fits (teller fields R of) runs.0 ((runs.1.command (show fields file) asks).1 R of) runs.2
+  status_exact (show fields inputs file) asks few fine fits = λ R of.
+      let first = fine.reads 0 (names-file words (length sources.old) names (show fields inputs file) asks (omega arith)) in
+      shown-status R (source_at sources 0) out status err first fine.writes fits (teller fields inputs R of) runs.0 ((runs.1.command (show fields inputs file) asks).1 R of) runs.2
   status_exact (extract tid level index file) asks few fine fits = λ R of.
       let first = fine.reads 0 (names-file words (length sources.old) names (extract tid level index file) asks (omega arith)) in
       extracted-status R (source_at sources 0) out status err first fine.writes fits (task_of tid level index) runs.0 ((runs.1.command (extract tid level index file) asks).1 R of) runs.2
@@ -276,7 +276,7 @@ module _ {A K E : Type 0} (words : List (List ℕ)) (sources : Sources A) (out :
       | inr is ↦ absurd (no-memory status err (subst (λ (o : Outcome). ExitsWith o status err) is runs.2) fits)
     ]
   ]
-  too_many_refused (show fields file) asks many fits = absurd many
+  too_many_refused (show fields inputs file) asks many fits = absurd many
   too_many_refused (extract tid level index file) asks many fits = absurd many
   too_many_refused (check_extract tid index file) asks many fits = absurd many
   too_many_refused (trial seed n k) asks many fits = absurd many
@@ -307,7 +307,7 @@ trial_of_command out WriteFault ends = tt
 trial_of_command out NoMemory ends = tt
 
 does_of_command : {A K : Type 0} (command : Command) (sources : Sources A) (out : Change K) (stop : Stop) → Does command sources out (Err stop) → IsOfCommand stop
-does_of_command (show fields file) sources out stop does = does.0
+does_of_command (show fields inputs file) sources out stop does = does.0
 does_of_command (extract tid level index file) sources out stop does = does.0
 does_of_command (check_extract tid index file) sources out stop does = does.0
 does_of_command (merge level placings) sources out stop does = does.stop

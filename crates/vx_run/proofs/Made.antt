@@ -22,9 +22,10 @@ use Rattle.vx_report.specs.declared.set.SetNumbers.TheVariants as numbers
 use Rattle.vx_report.specs.declared.picture.PictureNumbers.{PictureNumbers}
 use Rattle.vx_report.specs.SetLine.{set_text, vps_numbers, sps_numbers, pps_numbers}
 use Rattle.vx_report.specs.PictureLine.{picture_text, picture_numbers}
+use Rattle.vx_report.specs.InputLines.{inputs_text}
 use Rattle.vx_assemble.specs.Held.{items_of, ShowsLatest}
 use Rattle.vx_assemble.specs.Feed.{Feeding, HasFed, IsTold}
-use Rattle.vx_run.specs.Show.{Teller, shown_line, set_lines, picture_lines, unit_lines, told_lines, numbers_shown}
+use Rattle.vx_run.specs.Show.{Teller, shown_line, set_lines, picture_lines, input_lines, unit_lines, told_lines, numbers_shown}
 use Rattle.vx_assemble.specs.Feed.{seen_of}
 use Rattle.vx_run.specs.inner.Showing.{GathersOne}
 use Rattle.vx_run.proofs.Lined.{all_length, few_pictures}
@@ -56,6 +57,10 @@ no_picture r before is = line_of_pictures r before [] is
 
 pub one_picture : (r : Reading) (before : List Reading) (p : Picture) → completed r before ≡ p ∷ [] → picture_lines r before ≡ picture_text (numbers_shown (length (pictures before)) p)
 one_picture r before p is = line_of_pictures r before (p ∷ []) is ∙ append-nil (picture_text (numbers_shown (length (pictures before)) p))
+
+lines_of_inputs : (r : Reading) (before : List Reading) (ps : List Picture) → completed r before ≡ ps → input_lines r before ≡ flat_map (λ p. inputs_text (length (pictures before)) (parts_of p)) ps
+unfolding input_lines
+lines_of_inputs r before ps is = ap (flat_map (λ p. inputs_text (length (pictures before)) (parts_of p))) is
 
 -- ---- a set, by what is told of it
 
@@ -215,6 +220,18 @@ module _ (r : Reading) (before : List Reading) where
   picture_shown n told is =
       let done = completes accepted.PictureDone r before told in
       ap picture_text (is done.0 done.1) ∙ sym (one_picture r before done.0 done.1)
+
+  -- the lines of its slices
+  pub inputs_shown : (n : ℕ) (parts : Parts) → n ≡ length (pictures before) → accepted.PictureDone ≡ told_of r before → ShowsLatest parts (pictures (r ∷ before)) → inputs_text n parts ≡ input_lines r before
+  inputs_shown n parts count told shows =
+      let done = completes accepted.PictureDone r before told in
+      let is : parts ≡ parts_of done.0 = subst (λ (ps : List Picture). ShowsLatest parts (ps ++ pictures before)) done.1 shows in
+      ap (λ k. inputs_text k parts) count
+      ∙ ap (inputs_text (length (pictures before))) is
+      ∙ sym (lines_of_inputs r before (done.0 ∷ []) done.1 ∙ append-nil (inputs_text (length (pictures before)) (parts_of done.0)))
+
+  pub no_inputs : (what : Accepted) → (what ≡ accepted.PictureDone → ⊥) → what ≡ told_of r before → input_lines r before ≡ []
+  no_inputs what not told = lines_of_inputs r before [] (none_done what (completed r before) not (completes what r before told))
 
   -- the line of the picture alone, or of the set alone
   pub done_line : (line : List ℕ) → accepted.PictureDone ≡ told_of r before → line ≡ picture_lines r before → line ≡ set_lines r ++ picture_lines r before

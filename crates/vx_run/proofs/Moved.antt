@@ -44,11 +44,11 @@ shows-moved R T bytes faults k s s' l l' out (Err NoMemory) old new shows = rw (
 shows-moved R T bytes faults k s s' l l' out (Err NotUnderstood) old new shows = shows
 shows-moved R T bytes faults k s s' l l' out (Err (Mismatched x y)) old new shows = shows
 
-pub Shows-at : {S K : Type 0} (fields : Bool) (bytes : S → Option (List ℕ)) (faults : S → ℕ) (k : ℕ) (s s' : S) (l : List S) (out : Change K) (outcome : Outcome) → k < length l → s ≡ get_or l k s
-    → Shows fields (change bytes faults s s') out outcome → Shows fields (source_at (sources_change bytes faults l (slice_set l k s')) k) out outcome
-Shows-at fields bytes faults k s s' l out outcome within is shows =
+pub Shows-at : {S K : Type 0} (fields inputs : Bool) (bytes : S → Option (List ℕ)) (faults : S → ℕ) (k : ℕ) (s s' : S) (l : List S) (out : Change K) (outcome : Outcome) → k < length l → s ≡ get_or l k s
+    → Shows fields inputs (change bytes faults s s') out outcome → Shows fields inputs (source_at (sources_change bytes faults l (slice_set l k s')) k) out outcome
+Shows-at fields inputs bytes faults k s s' l out outcome within is shows =
     let there : k < length (slice_set l k s') = rw (length-set l k s') within in
-    (shows.0, λ R of. shows-moved R (teller fields R of) bytes faults k s s' l (slice_set l k s') out outcome (slice_get_read l (length l) k s refl within is) (slice_get_read (slice_set l k s') (length (slice_set l k s')) k s' refl there (sym (get_or-set_same l k s' s' within))) (shows.1 R of))
+    (shows.0, λ R of. shows-moved R (teller fields inputs R of) bytes faults k s s' l (slice_set l k s') out outcome (slice_get_read l (length l) k s refl within is) (slice_get_read (slice_set l k s') (length (slice_set l k s')) k s' refl there (sym (get_or-set_same l k s' s' within))) (shows.1 R of))
 
 -- reading of the source at k of a list stopped behind a picture, and what follows is refused
 stops-moved : {S : Type 0} (R : Readers) (bytes : S → Option (List ℕ)) (faults : S → ℕ) (k : ℕ) (s s' : S) (l l' : List S) (p : Picture) (before : List Picture) → slice_get l k ≡ Some s → slice_get l' k ≡ Some s'

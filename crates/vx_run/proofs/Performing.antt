@@ -20,10 +20,10 @@ performs words sources out outcome command spelled does = record {
 }
 
 -- `show` was done to the first source
-pub performs-show : {A K : Type 0} (words : List (List ℕ)) (bytes : A → Option (List ℕ)) (faults : A → ℕ) (s s' : A) (l : List A) (out : Change K) (outcome : Outcome) (fields : Bool) (file : List ℕ)
-    → AskFor words (show fields file) → 0 < length l → s ≡ get_or l 0 s → Shows fields (change bytes faults s s') out outcome → Performs words (sources_change bytes faults l (slice_set l 0 s')) out outcome
-performs-show words bytes faults s s' l out outcome fields file spelled within is shows =
-    performs words (sources_change bytes faults l (slice_set l 0 s')) out outcome (show fields file) spelled (Shows-at fields bytes faults 0 s s' l out outcome within is shows)
+pub performs-show : {A K : Type 0} (words : List (List ℕ)) (bytes : A → Option (List ℕ)) (faults : A → ℕ) (s s' : A) (l : List A) (out : Change K) (outcome : Outcome) (fields inputs : Bool) (file : List ℕ)
+    → AskFor words (show fields inputs file) → 0 < length l → s ≡ get_or l 0 s → Shows fields inputs (change bytes faults s s') out outcome → Performs words (sources_change bytes faults l (slice_set l 0 s')) out outcome
+performs-show words bytes faults s s' l out outcome fields inputs file spelled within is shows =
+    performs words (sources_change bytes faults l (slice_set l 0 s')) out outcome (show fields inputs file) spelled (Shows-at fields inputs bytes faults 0 s s' l out outcome within is shows)
 
 -- `extract` was done to the first source,
 pub performs-extract : {A K : Type 0} (words : List (List ℕ)) (bytes : A → Option (List ℕ)) (faults : A → ℕ) (s s' : A) (l : List A) (out : Change K) (outcome : Outcome) (tid level : Option ℕ) (index : ℕ) (file : List ℕ)

@@ -1,8 +1,8 @@
 -- Words spell one command.
-use Rattle.std.proofs.Common.{◌≡◌, ◌≢◌, ◌∙◌, sym, ap, true, false, ℕ, List, [], ◌∷◌, ◌++◌, Option, length, map, codes, decimal, get_or, drop, arith, refl}
+use Rattle.std.proofs.Common.{◌≡◌, ◌≢◌, ◌∙◌, sym, ap, true, false, Bool, ℕ, List, [], ◌∷◌, ◌++◌, Option, length, map, codes, decimal, get_or, drop, arith, refl}
 use Rattle.std.specs.List.{AllByRecursion}
 use Rattle.std.proofs.lemmas.Fmt.{decimal_injective}
-use Rattle.vx_run.specs.Grammar.{Command, show, extract, check_extract, merge, play, check_merge, verify, trial, help, version, explain, fields_words, tid_words, level_words, Placing, placing_word, AskFor, IsLevel, IsPlacing}
+use Rattle.vx_run.specs.Grammar.{Command, show, extract, check_extract, merge, play, check_merge, verify, trial, help, version, explain, fields_words, inputs_words, tid_words, level_words, Placing, placing_word, AskFor, IsLevel, IsPlacing}
 use Rattle.vx_run.specs.inner.Placings.{placing_in}
 use Rattle.vx_run.proofs.Numbering.{behind_tid, behind_level, tid_first, only_tid_first, level_first, index_first, option_once, number_once}
 use Rattle.vx_run.proofs.PlacingWords.{placings_read}
@@ -57,23 +57,43 @@ same_trial words s t n m k j p q =
     let pictures = decimal_injective k j (omega (arith, p.named.2)) (omega (arith, q.named.2)) (ap (λ (ws : List (List ℕ)). get_or ws 3 []) both) in
     cc
 
+-- what is spelled behind the name of `show`
+abbrev show_words : (fields inputs : Bool) → List ℕ → List (List ℕ)
+show_words fields inputs file = fields_words fields ++ (inputs_words inputs ++ file ∷ [])
+
+-- which spells the options and the file
+shown_once : (a x b y : Bool) (f g : List ℕ) → show_words a x f ≡ show_words b y g → show a x f ≡ show b y g
+shown_once true true true true f g same = ap (λ (ws : List (List ℕ)). show true true (get_or ws 2 [])) same
+shown_once true false true false f g same = ap (λ (ws : List (List ℕ)). show true false (get_or ws 1 [])) same
+shown_once false true false true f g same = ap (λ (ws : List (List ℕ)). show false true (get_or ws 1 [])) same
+shown_once false false false false f g same = ap (λ (ws : List (List ℕ)). show false false (get_or ws 0 [])) same
+shown_once true false false true f g same = absurd (omega (arith, ap (λ (ws : List (List ℕ)). get_or (get_or ws 0 []) 2 0) same))
+shown_once false true true false f g same = absurd (omega (arith, ap (λ (ws : List (List ℕ)). get_or (get_or ws 0 []) 2 0) same))
+shown_once true true true false f g same = absurd (omega (arith, ap (λ (ws : List (List ℕ)). length ws) same))
+shown_once true true false true f g same = absurd (omega (arith, ap (λ (ws : List (List ℕ)). length ws) same))
+shown_once true true false false f g same = absurd (omega (arith, ap (λ (ws : List (List ℕ)). length ws) same))
+shown_once true false true true f g same = absurd (omega (arith, ap (λ (ws : List (List ℕ)). length ws) same))
+shown_once true false false false f g same = absurd (omega (arith, ap (λ (ws : List (List ℕ)). length ws) same))
+shown_once false true true true f g same = absurd (omega (arith, ap (λ (ws : List (List ℕ)). length ws) same))
+shown_once false true false false f g same = absurd (omega (arith, ap (λ (ws : List (List ℕ)). length ws) same))
+shown_once false false true true f g same = absurd (omega (arith, ap (λ (ws : List (List ℕ)). length ws) same))
+shown_once false false true false f g same = absurd (omega (arith, ap (λ (ws : List (List ℕ)). length ws) same))
+shown_once false false false true f g same = absurd (omega (arith, ap (λ (ws : List (List ℕ)). length ws) same))
+
 -- the words spell one command
 pub spelled_once : (words : List (List ℕ)) (c d : Command) → AskFor words c → AskFor words d → c ≡ d
-spelled_once words (show true f) (show true g) p q = ap (λ ws. show true (get_or ws 2 [])) (sym p.spelled ∙ q.spelled)
-spelled_once words (show true f) (show false g) p q = absurd (omega (arith, ap (λ (ws : List (List ℕ)). length ws) (sym p.spelled ∙ q.spelled)))
-spelled_once words (show false f) (show true g) p q = absurd (omega (arith, ap (λ (ws : List (List ℕ)). length ws) (sym p.spelled ∙ q.spelled)))
-spelled_once words (show false f) (show false g) p q = ap (λ ws. show false (get_or ws 1 [])) (sym p.spelled ∙ q.spelled)
-spelled_once words (show a f) (extract u m j g) p q = absurd (other_first words (codes "show") (codes "extract") (fields_words a ++ f ∷ []) (tid_words u ++ behind_tid m j g) p.spelled q.spelled (omega arith))
-spelled_once words (show a f) (check_extract u j g) p q = absurd (other_first words (codes "show") (codes "check") (fields_words a ++ f ∷ []) (codes "extract" ∷ (tid_words u ++ behind_level j g)) p.spelled q.spelled (omega arith))
-spelled_once words (show a f) (merge m qs) p q = absurd (other_first words (codes "show") (codes "merge") (fields_words a ++ f ∷ []) (behind_name m qs) p.spelled q.spelled (omega arith))
-spelled_once words (show a f) (play m qs) p q = absurd (other_letter words (codes "show") (codes "play") (fields_words a ++ f ∷ []) (behind_name m qs) p.spelled q.spelled (omega arith))
-spelled_once words (show a f) (check_merge qs) p q = absurd (other_first words (codes "show") (codes "check") (fields_words a ++ f ∷ []) (codes "merge" ∷ map placing_word qs) p.spelled q.spelled (omega arith))
-spelled_once words (show a f) (verify g qs) p q = absurd (other_first words (codes "show") (codes "verify") (fields_words a ++ f ∷ []) (codes "merge" ∷ g ∷ map placing_word qs) p.spelled q.spelled (omega arith))
-spelled_once words (show a f) (trial u m j) p q = absurd (other_first words (codes "show") (codes "trial") (fields_words a ++ f ∷ []) (numbers u m j) p.spelled q.spelled (omega arith))
-spelled_once words (show a f) help p q = absurd (other_first words (codes "show") (codes "--help") (fields_words a ++ f ∷ []) [] p.spelled q.spelled (omega arith))
-spelled_once words (show a f) version p q = absurd (other_first words (codes "show") (codes "--version") (fields_words a ++ f ∷ []) [] p.spelled q.spelled (omega arith))
-spelled_once words (show a f) (explain w) p q = absurd (other_first words (codes "show") (codes "--explain") (fields_words a ++ f ∷ []) (w ∷ []) p.spelled q.spelled (omega arith))
-spelled_once words (extract t l i f) (show b g) p q = absurd (other_first words (codes "extract") (codes "show") (tid_words t ++ behind_tid l i f) (fields_words b ++ g ∷ []) p.spelled q.spelled (omega arith))
+spelled_once words (show a x f) (show b y g) p q = shown_once a x b y f g (ap (λ (ws : List (List ℕ)). drop 1 ws) (sym p.spelled ∙ q.spelled))
+spelled_once words (show a x f) (extract u m j g) p q = absurd (other_first words (codes "show") (codes "extract") (show_words a x f) (tid_words u ++ behind_tid m j g) p.spelled q.spelled (omega arith))
+spelled_once words (show a x f) (check_extract u j g) p q = absurd (other_first words (codes "show") (codes "check") (show_words a x f) (codes "extract" ∷ (tid_words u ++ behind_level j g)) p.spelled q.spelled (omega arith))
+spelled_once words (show a x f) (merge m qs) p q = absurd (other_first words (codes "show") (codes "merge") (show_words a x f) (behind_name m qs) p.spelled q.spelled (omega arith))
+spelled_once words (show a x f) (play m qs) p q = absurd (other_letter words (codes "show") (codes "play") (show_words a x f) (behind_name m qs) p.spelled q.spelled (omega arith))
+spelled_once words (show a x f) (check_merge qs) p q = absurd (other_first words (codes "show") (codes "check") (show_words a x f) (codes "merge" ∷ map placing_word qs) p.spelled q.spelled (omega arith))
+spelled_once words (show a x f) (verify g qs) p q = absurd (other_first words (codes "show") (codes "verify") (show_words a x f) (codes "merge" ∷ g ∷ map placing_word qs) p.spelled q.spelled (omega arith))
+spelled_once words (show a x f) (trial u m j) p q = absurd (other_first words (codes "show") (codes "trial") (show_words a x f) (numbers u m j) p.spelled q.spelled (omega arith))
+spelled_once words (show a x f) help p q = absurd (other_first words (codes "show") (codes "--help") (show_words a x f) [] p.spelled q.spelled (omega arith))
+spelled_once words (show a x f) version p q = absurd (other_first words (codes "show") (codes "--version") (show_words a x f) [] p.spelled q.spelled (omega arith))
+spelled_once words (show a x f) (explain w) p q = absurd (other_first words (codes "show") (codes "--explain") (show_words a x f) (w ∷ []) p.spelled q.spelled (omega arith))
+spelled_once words (extract t l i f) (show b y g) p q = absurd (other_first words (codes "extract") (codes "show") (tid_words t ++ behind_tid l i f) (show_words b y g) p.spelled q.spelled (omega arith))
 spelled_once words (extract t l i f) (extract u m j g) p q =
     let words_same : tid_words t ++ behind_tid l i f ≡ tid_words u ++ behind_tid m j g = ap (λ (ws : List (List ℕ)). drop 1 ws) (sym p.spelled ∙ q.spelled) in
     let tid = option_once (codes "--tid") 6 (tid_words t ++ behind_tid l i f) t u (behind_tid l i f) (behind_tid m j g) (omega arith) (tid_first t l i f p.named.0 p.named.2) (rw words_same (tid_first u m j g q.named.0 q.named.2)) in
@@ -90,7 +110,7 @@ spelled_once words (extract t l i f) (trial u m j) p q = absurd (other_first wor
 spelled_once words (extract t l i f) help p q = absurd (other_first words (codes "extract") (codes "--help") (tid_words t ++ behind_tid l i f) [] p.spelled q.spelled (omega arith))
 spelled_once words (extract t l i f) version p q = absurd (other_first words (codes "extract") (codes "--version") (tid_words t ++ behind_tid l i f) [] p.spelled q.spelled (omega arith))
 spelled_once words (extract t l i f) (explain w) p q = absurd (other_first words (codes "extract") (codes "--explain") (tid_words t ++ behind_tid l i f) (w ∷ []) p.spelled q.spelled (omega arith))
-spelled_once words (check_extract t i f) (show b g) p q = absurd (other_first words (codes "check") (codes "show") (codes "extract" ∷ (tid_words t ++ behind_level i f)) (fields_words b ++ g ∷ []) p.spelled q.spelled (omega arith))
+spelled_once words (check_extract t i f) (show b y g) p q = absurd (other_first words (codes "check") (codes "show") (codes "extract" ∷ (tid_words t ++ behind_level i f)) (show_words b y g) p.spelled q.spelled (omega arith))
 spelled_once words (check_extract t i f) (extract u m j g) p q = absurd (other_first words (codes "check") (codes "extract") (codes "extract" ∷ (tid_words t ++ behind_level i f)) (tid_words u ++ behind_tid m j g) p.spelled q.spelled (omega arith))
 spelled_once words (check_extract t i f) (check_extract u j g) p q =
     let words_same : tid_words t ++ behind_level i f ≡ tid_words u ++ behind_level j g = ap (λ (ws : List (List ℕ)). drop 2 ws) (sym p.spelled ∙ q.spelled) in
@@ -106,7 +126,7 @@ spelled_once words (check_extract t i f) (trial u m j) p q = absurd (other_lette
 spelled_once words (check_extract t i f) help p q = absurd (other_first words (codes "check") (codes "--help") (codes "extract" ∷ (tid_words t ++ behind_level i f)) [] p.spelled q.spelled (omega arith))
 spelled_once words (check_extract t i f) version p q = absurd (other_first words (codes "check") (codes "--version") (codes "extract" ∷ (tid_words t ++ behind_level i f)) [] p.spelled q.spelled (omega arith))
 spelled_once words (check_extract t i f) (explain w) p q = absurd (other_first words (codes "check") (codes "--explain") (codes "extract" ∷ (tid_words t ++ behind_level i f)) (w ∷ []) p.spelled q.spelled (omega arith))
-spelled_once words (merge l ps) (show b g) p q = absurd (other_first words (codes "merge") (codes "show") (behind_name l ps) (fields_words b ++ g ∷ []) p.spelled q.spelled (omega arith))
+spelled_once words (merge l ps) (show b y g) p q = absurd (other_first words (codes "merge") (codes "show") (behind_name l ps) (show_words b y g) p.spelled q.spelled (omega arith))
 spelled_once words (merge l ps) (extract u m j g) p q = absurd (other_first words (codes "merge") (codes "extract") (behind_name l ps) (tid_words u ++ behind_tid m j g) p.spelled q.spelled (omega arith))
 spelled_once words (merge l ps) (check_extract u j g) p q = absurd (other_letter words (codes "merge") (codes "check") (behind_name l ps) (codes "extract" ∷ (tid_words u ++ behind_level j g)) p.spelled q.spelled (omega arith))
 spelled_once words (merge l ps) (merge m qs) p q =
@@ -119,7 +139,7 @@ spelled_once words (merge l ps) (trial u m j) p q = absurd (other_letter words (
 spelled_once words (merge l ps) help p q = absurd (other_first words (codes "merge") (codes "--help") (behind_name l ps) [] p.spelled q.spelled (omega arith))
 spelled_once words (merge l ps) version p q = absurd (other_first words (codes "merge") (codes "--version") (behind_name l ps) [] p.spelled q.spelled (omega arith))
 spelled_once words (merge l ps) (explain w) p q = absurd (other_first words (codes "merge") (codes "--explain") (behind_name l ps) (w ∷ []) p.spelled q.spelled (omega arith))
-spelled_once words (play l ps) (show b g) p q = absurd (other_letter words (codes "play") (codes "show") (behind_name l ps) (fields_words b ++ g ∷ []) p.spelled q.spelled (omega arith))
+spelled_once words (play l ps) (show b y g) p q = absurd (other_letter words (codes "play") (codes "show") (behind_name l ps) (show_words b y g) p.spelled q.spelled (omega arith))
 spelled_once words (play l ps) (extract u m j g) p q = absurd (other_first words (codes "play") (codes "extract") (behind_name l ps) (tid_words u ++ behind_tid m j g) p.spelled q.spelled (omega arith))
 spelled_once words (play l ps) (check_extract u j g) p q = absurd (other_first words (codes "play") (codes "check") (behind_name l ps) (codes "extract" ∷ (tid_words u ++ behind_level j g)) p.spelled q.spelled (omega arith))
 spelled_once words (play l ps) (merge m qs) p q = absurd (other_first words (codes "play") (codes "merge") (behind_name l ps) (behind_name m qs) p.spelled q.spelled (omega arith))
@@ -132,7 +152,7 @@ spelled_once words (play l ps) (trial u m j) p q = absurd (other_first words (co
 spelled_once words (play l ps) help p q = absurd (other_first words (codes "play") (codes "--help") (behind_name l ps) [] p.spelled q.spelled (omega arith))
 spelled_once words (play l ps) version p q = absurd (other_first words (codes "play") (codes "--version") (behind_name l ps) [] p.spelled q.spelled (omega arith))
 spelled_once words (play l ps) (explain w) p q = absurd (other_first words (codes "play") (codes "--explain") (behind_name l ps) (w ∷ []) p.spelled q.spelled (omega arith))
-spelled_once words (check_merge ps) (show b g) p q = absurd (other_first words (codes "check") (codes "show") (codes "merge" ∷ map placing_word ps) (fields_words b ++ g ∷ []) p.spelled q.spelled (omega arith))
+spelled_once words (check_merge ps) (show b y g) p q = absurd (other_first words (codes "check") (codes "show") (codes "merge" ∷ map placing_word ps) (show_words b y g) p.spelled q.spelled (omega arith))
 spelled_once words (check_merge ps) (extract u m j g) p q = absurd (other_first words (codes "check") (codes "extract") (codes "merge" ∷ map placing_word ps) (tid_words u ++ behind_tid m j g) p.spelled q.spelled (omega arith))
 spelled_once words (check_merge ps) (check_extract u j g) p q = absurd (other_second words (codes "check") (codes "check") (codes "merge") (codes "extract") (map placing_word ps) (tid_words u ++ behind_level j g) p.spelled q.spelled (omega arith))
 spelled_once words (check_merge ps) (merge m qs) p q = absurd (other_letter words (codes "check") (codes "merge") (codes "merge" ∷ map placing_word ps) (behind_name m qs) p.spelled q.spelled (omega arith))
@@ -145,7 +165,7 @@ spelled_once words (check_merge ps) (trial u m j) p q = absurd (other_letter wor
 spelled_once words (check_merge ps) help p q = absurd (other_first words (codes "check") (codes "--help") (codes "merge" ∷ map placing_word ps) ([]) p.spelled q.spelled (omega arith))
 spelled_once words (check_merge ps) version p q = absurd (other_first words (codes "check") (codes "--version") (codes "merge" ∷ map placing_word ps) ([]) p.spelled q.spelled (omega arith))
 spelled_once words (check_merge ps) (explain w) p q = absurd (other_first words (codes "check") (codes "--explain") (codes "merge" ∷ map placing_word ps) (w ∷ []) p.spelled q.spelled (omega arith))
-spelled_once words (verify f ps) (show b g) p q = absurd (other_first words (codes "verify") (codes "show") (codes "merge" ∷ f ∷ map placing_word ps) (fields_words b ++ g ∷ []) p.spelled q.spelled (omega arith))
+spelled_once words (verify f ps) (show b y g) p q = absurd (other_first words (codes "verify") (codes "show") (codes "merge" ∷ f ∷ map placing_word ps) (show_words b y g) p.spelled q.spelled (omega arith))
 spelled_once words (verify f ps) (extract u m j g) p q = absurd (other_first words (codes "verify") (codes "extract") (codes "merge" ∷ f ∷ map placing_word ps) (tid_words u ++ behind_tid m j g) p.spelled q.spelled (omega arith))
 spelled_once words (verify f ps) (check_extract u j g) p q = absurd (other_first words (codes "verify") (codes "check") (codes "merge" ∷ f ∷ map placing_word ps) (codes "extract" ∷ (tid_words u ++ behind_level j g)) p.spelled q.spelled (omega arith))
 spelled_once words (verify f ps) (merge m qs) p q = absurd (other_first words (codes "verify") (codes "merge") (codes "merge" ∷ f ∷ map placing_word ps) (behind_name m qs) p.spelled q.spelled (omega arith))
@@ -159,7 +179,7 @@ spelled_once words (verify f ps) (trial u m j) p q = absurd (other_first words (
 spelled_once words (verify f ps) help p q = absurd (other_letter words (codes "verify") (codes "--help") (codes "merge" ∷ f ∷ map placing_word ps) [] p.spelled q.spelled (omega arith))
 spelled_once words (verify f ps) version p q = absurd (other_first words (codes "verify") (codes "--version") (codes "merge" ∷ f ∷ map placing_word ps) [] p.spelled q.spelled (omega arith))
 spelled_once words (verify f ps) (explain w) p q = absurd (other_first words (codes "verify") (codes "--explain") (codes "merge" ∷ f ∷ map placing_word ps) (w ∷ []) p.spelled q.spelled (omega arith))
-spelled_once words (trial s n k) (show b g) p q = absurd (other_first words (codes "trial") (codes "show") (numbers s n k) (fields_words b ++ g ∷ []) p.spelled q.spelled (omega arith))
+spelled_once words (trial s n k) (show b y g) p q = absurd (other_first words (codes "trial") (codes "show") (numbers s n k) (show_words b y g) p.spelled q.spelled (omega arith))
 spelled_once words (trial s n k) (extract u m j g) p q = absurd (other_first words (codes "trial") (codes "extract") (numbers s n k) (tid_words u ++ behind_tid m j g) p.spelled q.spelled (omega arith))
 spelled_once words (trial s n k) (check_extract u j g) p q = absurd (other_letter words (codes "trial") (codes "check") (numbers s n k) (codes "extract" ∷ (tid_words u ++ behind_level j g)) p.spelled q.spelled (omega arith))
 spelled_once words (trial s n k) (merge m qs) p q = absurd (other_letter words (codes "trial") (codes "merge") (numbers s n k) (behind_name m qs) p.spelled q.spelled (omega arith))
@@ -170,7 +190,7 @@ spelled_once words (trial s n k) (trial u m j) p q = same_trial words s u n m k 
 spelled_once words (trial s n k) help p q = absurd (other_first words (codes "trial") (codes "--help") (numbers s n k) [] p.spelled q.spelled (omega arith))
 spelled_once words (trial s n k) version p q = absurd (other_first words (codes "trial") (codes "--version") (numbers s n k) [] p.spelled q.spelled (omega arith))
 spelled_once words (trial s n k) (explain w) p q = absurd (other_first words (codes "trial") (codes "--explain") (numbers s n k) (w ∷ []) p.spelled q.spelled (omega arith))
-spelled_once words help (show b g) p q = absurd (other_first words (codes "--help") (codes "show") [] (fields_words b ++ g ∷ []) p.spelled q.spelled (omega arith))
+spelled_once words help (show b y g) p q = absurd (other_first words (codes "--help") (codes "show") [] (show_words b y g) p.spelled q.spelled (omega arith))
 spelled_once words help (extract u m j g) p q = absurd (other_first words (codes "--help") (codes "extract") [] (tid_words u ++ behind_tid m j g) p.spelled q.spelled (omega arith))
 spelled_once words help (check_extract u j g) p q = absurd (other_first words (codes "--help") (codes "check") [] (codes "extract" ∷ (tid_words u ++ behind_level j g)) p.spelled q.spelled (omega arith))
 spelled_once words help (merge m qs) p q = absurd (other_first words (codes "--help") (codes "merge") [] (behind_name m qs) p.spelled q.spelled (omega arith))
@@ -181,7 +201,7 @@ spelled_once words help (trial u m j) p q = absurd (other_first words (codes "--
 spelled_once words help help p q = refl
 spelled_once words help version p q = absurd (other_first words (codes "--help") (codes "--version") [] [] p.spelled q.spelled (omega arith))
 spelled_once words help (explain w) p q = absurd (other_first words (codes "--help") (codes "--explain") [] (w ∷ []) p.spelled q.spelled (omega arith))
-spelled_once words version (show b g) p q = absurd (other_first words (codes "--version") (codes "show") [] (fields_words b ++ g ∷ []) p.spelled q.spelled (omega arith))
+spelled_once words version (show b y g) p q = absurd (other_first words (codes "--version") (codes "show") [] (show_words b y g) p.spelled q.spelled (omega arith))
 spelled_once words version (extract u m j g) p q = absurd (other_first words (codes "--version") (codes "extract") [] (tid_words u ++ behind_tid m j g) p.spelled q.spelled (omega arith))
 spelled_once words version (check_extract u j g) p q = absurd (other_first words (codes "--version") (codes "check") [] (codes "extract" ∷ (tid_words u ++ behind_level j g)) p.spelled q.spelled (omega arith))
 spelled_once words version (merge m qs) p q = absurd (other_first words (codes "--version") (codes "merge") [] (behind_name m qs) p.spelled q.spelled (omega arith))
@@ -192,7 +212,7 @@ spelled_once words version (trial u m j) p q = absurd (other_first words (codes 
 spelled_once words version help p q = absurd (other_first words (codes "--version") (codes "--help") [] [] p.spelled q.spelled (omega arith))
 spelled_once words version version p q = refl
 spelled_once words version (explain w) p q = absurd (omega (arith, ap (λ (ws : List (List ℕ)). length ws) (sym p.spelled ∙ q.spelled)))
-spelled_once words (explain v) (show b g) p q = absurd (other_first words (codes "--explain") (codes "show") (v ∷ []) (fields_words b ++ g ∷ []) p.spelled q.spelled (omega arith))
+spelled_once words (explain v) (show b y g) p q = absurd (other_first words (codes "--explain") (codes "show") (v ∷ []) (show_words b y g) p.spelled q.spelled (omega arith))
 spelled_once words (explain v) (extract u m j g) p q = absurd (other_first words (codes "--explain") (codes "extract") (v ∷ []) (tid_words u ++ behind_tid m j g) p.spelled q.spelled (omega arith))
 spelled_once words (explain v) (check_extract u j g) p q = absurd (other_first words (codes "--explain") (codes "check") (v ∷ []) (codes "extract" ∷ (tid_words u ++ behind_level j g)) p.spelled q.spelled (omega arith))
 spelled_once words (explain v) (merge m qs) p q = absurd (other_first words (codes "--explain") (codes "merge") (v ∷ []) (behind_name m qs) p.spelled q.spelled (omega arith))

@@ -15,7 +15,7 @@ pub record Placing : Type 0 where
 
 -- What the arguments ask for.
 pub data Command : Type 0 where
-  show : (with_fields : Bool) → List ℕ → Command
+  show : (with_fields with_inputs : Bool) → List ℕ → Command
   extract : (tid level : Option ℕ) (index : ℕ) → List ℕ → Command
   check_extract : (tid : Option ℕ) (index : ℕ) → List ℕ → Command
   merge : (level : Option ℕ) → List Placing → Command
@@ -43,15 +43,20 @@ abbrev pub fields_words : Bool → List (List ℕ)
 fields_words true = codes "--fields" ∷ []
 fields_words false = []
 
+-- `--inputs`, if the decoding inputs of slices are asked for.
+abbrev pub inputs_words : Bool → List (List ℕ)
+inputs_words true = codes "--inputs" ∷ []
+inputs_words false = []
+
 -- `X,Y=FILE`: the file's name begins after the first `=`.
 abbrev pub placing_word : Placing → List ℕ
 placing_word p = decimal p.x ++ (codes "," ++ (decimal p.y ++ (codes "=" ++ p.file)))
 
--- `show [--fields] FILE`, `extract [--tid T] [--level N] INDEX FILE`, `check extract [--tid T] INDEX FILE`, `merge [--level N] X,Y=FILE ..`,
+-- `show [--fields] [--inputs] FILE`, `extract [--tid T] [--level N] INDEX FILE`, `check extract [--tid T] INDEX FILE`, `merge [--level N] X,Y=FILE ..`,
 -- `play [--level N] X,Y=FILE ..`, `check merge X,Y=FILE ..`, `verify merge OUT X,Y=FILE ..`, `trial SEED SOURCES PICTURES`,
 -- `--help`, `--version`, `--explain WORD`
 abbrev pub spelling : Command → List (List ℕ)
-spelling (show with_fields file) = codes "show" ∷ (fields_words with_fields ++ file ∷ [])
+spelling (show with_fields with_inputs file) = codes "show" ∷ (fields_words with_fields ++ (inputs_words with_inputs ++ file ∷ []))
 spelling (extract tid level index file) = codes "extract" ∷ (tid_words tid ++ (level_words level ++ (decimal index ∷ file ∷ [])))
 spelling (check_extract tid index file) = codes "check" ∷ codes "extract" ∷ (tid_words tid ++ (decimal index ∷ file ∷ []))
 spelling (merge level placings) = codes "merge" ∷ (level_words level ++ map placing_word placings)
@@ -87,7 +92,7 @@ IsRuleOrField word = Contains (rules ++ map decimal fields) word
 
 -- A file's name has a byte, numbers are in their ranges, a merge has a source, and `--explain` has a rule or a field.
 abbrev pub IsWellNamed : Command → Type 0
-IsWellNamed (show with_fields file) = file ≢ []
+IsWellNamed (show with_fields with_inputs file) = file ≢ []
 IsWellNamed (extract tid level index file) = IsTid tid × IsLevel level × IsIndex index × (file ≢ [])
 IsWellNamed (check_extract tid index file) = IsTid tid × IsIndex index × (file ≢ [])
 IsWellNamed (merge level placings) = IsLevel level × (placings ≢ []) × AllByRecursion IsPlacing placings
@@ -110,7 +115,7 @@ IsUnderstood words = (command : Command) × AskFor words command
 
 -- The files that a command names, in order.
 abbrev pub files_of : Command → List (List ℕ)
-files_of (show with_fields file) = file ∷ []
+files_of (show with_fields with_inputs file) = file ∷ []
 files_of (extract tid level index file) = file ∷ []
 files_of (check_extract tid index file) = file ∷ []
 files_of (merge level placings) = map (λ p. p.file) placings

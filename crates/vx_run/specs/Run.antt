@@ -16,7 +16,7 @@ use Rattle.vx_run.specs.Verify.{spots_of, Verifies}
 
 -- What a command did to its sources and to `out`, by its outcome.
 abbrev pub Does : {A K : Type 0} → Command → Sources A → Change K → Outcome → Type 0
-Does (show fields file) sources out outcome = Shows fields (source_at sources 0) out outcome
+Does (show fields inputs file) sources out outcome = Shows fields inputs (source_at sources 0) out outcome
 Does (extract tid level index file) sources out outcome = Extracts (task_of tid level index) (source_at sources 0) out outcome
 Does (check_extract tid index file) sources out outcome = Checks (task_of tid None index) (source_at sources 0) out outcome
 Does (merge level placings) sources out outcome = Merges (corners_of placings) level sources out outcome

@@ -8,6 +8,7 @@ use Rattle.vx_bits.specs.declared.refusal.Refusal.TheVariants.{Syntax}
 use Rattle.vx_annexb.specs.NalUnit.{header_of}
 use Rattle.vx_annexb.specs.ByteStream.{source_limit, UnitPlace, unit_bytes, IsStream, FollowsFrom}
 use Rattle.vx_pic.specs.Readings.{Reading, vps_read, sps_read, pps_read, aps_read, Picture, completed, pictures}
+use Rattle.vx_pic.specs.Parts.{parts_of}
 use Rattle.vx_pic.specs.Rules.{Readers, reads}
 use Rattle.vx_pic.specs.Streams.{read_on, all_read}
 use Rattle.vx_pic.specs.Bytes.{Ending, units_at, ending_by}
@@ -22,6 +23,7 @@ use Rattle.vx_report.specs.FieldsLine.{fields_text}
 use Rattle.vx_assemble.specs.Fields.{unit_fields}
 use Rattle.vx_report.specs.SetLine.{set_text, vps_numbers, sps_numbers, pps_numbers}
 use Rattle.vx_report.specs.PictureLine.{picture_text}
+use Rattle.vx_report.specs.InputLines.{inputs_text}
 use Rattle.vx_run.specs.declared.stop.Stop.TheVariants.{Refused, ReadFault, WriteFault, NoMemory}
 use Rattle.vx_run.specs.Change.{Change, HasNoFault, HasFault, GivesFront, Gains, GainsFront}
 use Rattle.vx_run.specs.Conclusion.{Outcome, IsOfCommand}
@@ -90,10 +92,27 @@ field_of (Err refusal) = refused_field refusal
 abbrev pub tells_fields : (R : Readers) → AreOfH266 R → Teller
 tells_fields R h before unit = fields_text (length before) (unit_fields R h before unit) (field_of (reads R before unit))
 
--- The further lines with and without `--fields`.
-abbrev pub teller : (fields : Bool) → (R : Readers) → AreOfH266 R → Teller
-teller true R h = tells_fields R h
-teller false R h = tells_nothing
+-- The lines of the slices of the picture that this reading completes after those before it, with their decoding inputs.
+unfoldable pub input_lines : Reading → List Reading → List ℕ
+input_lines r before = flat_map (λ p. inputs_text (length (pictures before)) (parts_of p)) (completed r before)
+
+-- Those of the picture that a unit completes.
+abbrev pub inputs_read : Result Reading Refusal → List Reading → List ℕ
+inputs_read (Ok r) before = input_lines r before
+inputs_read (Err refusal) before = []
+
+abbrev pub tells_inputs : Readers → Teller
+tells_inputs R before unit = inputs_read (reads R before unit) before
+
+-- What is told if it is asked for, and nothing otherwise.
+abbrev pub where_asked : Bool → Teller → Teller
+where_asked true T = T
+where_asked false T = tells_nothing
+
+-- The further lines: the inputs and then the fields, each if they are asked for.
+abbrev pub teller : (fields inputs : Bool) → (R : Readers) → AreOfH266 R → Teller
+teller fields inputs R h before unit =
+    where_asked inputs (tells_inputs R) before unit ++ where_asked fields (tells_fields R h) before unit
 
 -- The lines of a unit that is read, with the further lines.
 abbrev pub told_lines : Teller → List ℕ → UnitPlace → Reading → List Reading → List ℕ
@@ -187,6 +206,7 @@ ShowsBy R T source out (Err NoMemory) =
     × WhereKnown R source (λ b units ending. (n : ℕ) × Gains out (shown_lines R T b (take n units)))
 ShowsBy R T source out (Err _) = ⊥
 
--- That holds for the readers of H.266, with the fields if they are asked for, and the arguments were understood.
-abbrev pub Shows : {A K : Type 0} → (fields : Bool) → Change A → Change K → Outcome → Type 0
-Shows fields source out outcome = IfErr outcome IsOfCommand × ((R : Readers) (h : AreOfH266 R) → ShowsBy R (teller fields R h) source out outcome)
+-- That holds for the readers of H.266, with the fields and the inputs if they are asked for, and the arguments were understood.
+abbrev pub Shows : {A K : Type 0} → (fields inputs : Bool) → Change A → Change K → Outcome → Type 0
+Shows fields inputs source out outcome =
+    IfErr outcome IsOfCommand × ((R : Readers) (h : AreOfH266 R) → ShowsBy R (teller fields inputs R h) source out outcome)

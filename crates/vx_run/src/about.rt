@@ -17,12 +17,13 @@ pub(crate) fn help() -> &'static [u8]
 {
     b"goosequince: merges and extracts subpictures of VVC streams (H.266, Annex B)
 
-  show [--fields] FILE
+  show [--fields] [--inputs] FILE
              lists the NAL units of a byte stream as lines of JSON: the length of
              each unit, the place of its first byte, its TemporalId and its type;
              then a line of the parameter set that it is, or of the picture that
-             it completes; with --fields also each field of a set or header, by
-             its name and in the order of the bits
+             it completes; with --inputs also a line of each slice of the picture,
+             with its decoding input; with --fields also each field of a set or
+             header, by its name and in the order of the bits
   extract [--tid T] [--level N] INDEX FILE
              writes one subpicture, by its index from 0, of each picture as a
              byte stream of its own; with --tid only pictures with a TemporalId

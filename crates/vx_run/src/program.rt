@@ -57,7 +57,13 @@ fn perform<K: Sink>(
     ensures list { vec_len sources.new ≡ vec_len sources.old }
 {
     match command_of(words) {
-        Some(Command::Show { fields, .. }) => show(alloc, fields, &mut sources[0], out),
+        Some(Command::Show { fields, inputs, .. }) => show(
+            alloc,
+            fields,
+            inputs,
+            &mut sources[0],
+            out,
+        ),
         Some(
             Command::Extract {
                 tid,

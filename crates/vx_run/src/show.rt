@@ -1,4 +1,4 @@
-//! `show [--fields] FILE`: lines for the units, sets, pictures and fields of a byte stream.
+//! `show [--fields] [--inputs] FILE`: lines for the units, sets, pictures, decoding inputs and fields of a byte stream.
 
 ghost use Rattle.std.specs.Prelude.{◌≡◌, ◌+◌, ◌<◌, ◌++◌, ◌∷◌, [], List, ℕ, length, Some, None, Ok, Err, IfOk, IfErr, MatchOption, OnOk, OnErr, OnSome};
 ghost use Rattle.vx_annexb.specs.ByteStream.{UnitPlace};
@@ -19,7 +19,7 @@ ghost use Rattle.vx_run.specs.Change.{change};
 ghost use Rattle.vx_run.specs.Conclusion.{IsOfCommand};
 ghost use Rattle.vx_run.specs.Show.{ShowsBy, teller, refused_field, set_lines, picture_lines, unit_lines};
 ghost use Rattle.vx_assemble.specs.Feed.{seen_of};
-ghost use Rattle.vx_run.specs.inner.Showing.{seen_by, ReadsOn, GathersNext, Gathers, HasShown, ShowsLater};
+ghost use Rattle.vx_run.specs.inner.Showing.{asked_inputs, seen_by, ReadsOn, GathersNext, Gathers, HasShown, ShowsLater};
 
 use crate::stop::{Place, Stop};
 use std::alloc::{AllocError, Global};
@@ -28,38 +28,42 @@ use vx_assemble::{Accepted, Feed, FeedFault, Taken};
 use vx_bits::Refusal;
 use vx_io::{Sink, Source, write_all};
 use vx_pic::StructureFields;
-use vx_report::{PictureNumbers, SetNumbers, fields_line, picture_line, set_line, unit_line};
+use vx_report::{
+    PictureNumbers, SetNumbers, fields_line, input_lines, picture_line, set_line, unit_line,
+};
 
 /// Runs `show`: writes lines for each NAL unit of `source`, in order.
 ///
-/// There is a line for the unit, for the set that it is or the picture that it completes, and with `fields` for the fields that it
-/// spells. The lines of all complete units are written before the next read.
+/// There is a line for the unit, for the set that it is or the picture that it completes, with `inputs` for each slice of this picture,
+/// and with `fields` for the fields that the unit spells. The lines of all complete units are written before the next read.
 pub(crate) fn show<K: Sink>(
     alloc: Global,
     fields: bool,
+    inputs: bool,
     source: &mut Box<dyn Source>,
     out: &mut K,
 ) -> Result<(), Stop>
-    ensures shows { (R : Readers) (h : AreOfH266 R) → ShowsBy R (teller fields R h) (change bytes_left read_faults source.old source.new)
+    ensures shows { (R : Readers) (h : AreOfH266 R) → ShowsBy R (teller fields inputs R h) (change bytes_left read_faults source.old source.new)
         (change K.bytes_taken K.write_faults out.old out.new) result }
     ensures stop { IfErr result IsOfCommand }
 {
     let mut feed = Feed::new(alloc)?;
-    show_fed(alloc, fields, &mut feed, source, out)
+    show_fed(alloc, fields, inputs, &mut feed, source, out)
 }
 
 /// Writes the lines through a feed that has read nothing.
 fn show_fed<K: Sink>(
     alloc: Global,
     fields: bool,
+    inputs: bool,
     feed: &mut Feed,
     source: &mut Box<dyn Source>,
     out: &mut K,
 ) -> Result<(), Stop>
     requires sought { IsOpen feed.old → IsSought feed.old.reader.splitter }
-    requires none { (R : Readers) (h : AreOfH266 R) → HasShown R (teller fields R h) (change bytes_left read_faults source.old source.old)
+    requires none { (R : Readers) (h : AreOfH266 R) → HasShown R (teller fields inputs R h) (change bytes_left read_faults source.old source.old)
         (change K.bytes_taken K.write_faults out.old out.old) feed.old 0 }
-    ensures shows { (R : Readers) (h : AreOfH266 R) → ShowsBy R (teller fields R h) (change bytes_left read_faults source.old source.new)
+    ensures shows { (R : Readers) (h : AreOfH266 R) → ShowsBy R (teller fields inputs R h) (change bytes_left read_faults source.old source.new)
         (change K.bytes_taken K.write_faults out.old out.new) result }
     ensures stop { IfErr result IsOfCommand }
 {
@@ -67,7 +71,7 @@ fn show_fed<K: Sink>(
     let mut pictures = 0;
     while feed.is_open() {
         read_on(feed, source)?;
-        pictures = show_seen(alloc, feed, fields, pictures, &mut lines, out)?;
+        pictures = show_seen(alloc, feed, fields, inputs, pictures, &mut lines, out)?;
     }
     Ok(())
 }
@@ -96,13 +100,14 @@ fn show_seen<K: Sink>(
     alloc: Global,
     feed: &mut Feed,
     fields: bool,
+    inputs: bool,
     pictures: u64,
     lines: &mut Vec<u8>,
     out: &mut K,
 ) -> Result<u64, Stop>
     ensures answer { (R : Readers) (h : AreOfH266 R) (g : List ℕ) (units : List UnitPlace) (before : List Reading)
         → HasFed R feed.old g units before → pictures ≡ length (pictures_in before)
-        → ShowsLater R (teller fields R h) g units before feed.new (change K.bytes_taken K.write_faults out.old out.new) result }
+        → ShowsLater R (teller fields inputs R h) g units before feed.new (change K.bytes_taken K.write_faults out.old out.new) result }
     ensures taken { feed.new.reader.taken ≡ feed.old.reader.taken }
     ensures closed { feed.new.reader.closed ≡ feed.old.reader.closed }
     ensures all { is_all feed.new.reader.splitter ≡ is_all feed.old.reader.splitter }
@@ -110,7 +115,7 @@ fn show_seen<K: Sink>(
     ensures stop { IfErr result IsOfCommand }
 {
     lines.clear();
-    let ending = gather(alloc, feed, fields, pictures, lines);
+    let ending = gather(alloc, feed, fields, inputs, pictures, lines);
     write_all(out, lines)?;
     ending
 }
@@ -122,12 +127,13 @@ fn gather(
     alloc: Global,
     feed: &mut Feed,
     fields: bool,
+    inputs: bool,
     pictures: u64,
     lines: &mut Vec<u8>,
 ) -> Result<u64, Stop>
     ensures answer { (R : Readers) (h : AreOfH266 R) (g : List ℕ) (units : List UnitPlace) (before : List Reading)
         → HasFed R feed.old g units before → pictures ≡ length (pictures_in before)
-        → Gathers R (teller fields R h) g units before feed.new lines.old.items lines.new.items result }
+        → Gathers R (teller fields inputs R h) g units before feed.new lines.old.items lines.new.items result }
     ensures taken { feed.new.reader.taken ≡ feed.old.reader.taken }
     ensures closed { feed.new.reader.closed ≡ feed.old.reader.closed }
     ensures all { is_all feed.new.reader.splitter ≡ is_all feed.old.reader.splitter }
@@ -139,6 +145,7 @@ fn gather(
         alloc,
         feed,
         fields,
+        inputs,
         count,
         &mut StructureFields::new(alloc),
         lines,
@@ -148,7 +155,7 @@ fn gather(
     Ok(count)
 }
 
-/// Appends the lines of the next unit, and those of the fields seen in it, to `lines`.
+/// Appends the lines of the next unit, of the slices of the picture that it completes, and of the fields seen in it, to `lines`.
 ///
 /// `pictures` is the number of pictures before. Returns the number with the one that the unit completes; `None` if there is no complete
 /// unit.
@@ -156,6 +163,7 @@ fn gather_next(
     alloc: Global,
     feed: &mut Feed,
     fields: bool,
+    inputs: bool,
     pictures: u64,
     seen: &mut StructureFields,
     lines: &mut Vec<u8>,
@@ -163,7 +171,7 @@ fn gather_next(
     requires { seen.old ≡ no_fields }
     ensures answer { (R : Readers) (h : AreOfH266 R) (g : List ℕ) (units : List UnitPlace) (before : List Reading)
         → HasFed R feed.old g units before → pictures ≡ length (pictures_in before)
-        → GathersNext R (teller fields R h) g units before feed.new lines.old.items lines.new.items result }
+        → GathersNext R (teller fields inputs R h) g units before feed.new lines.old.items lines.new.items result }
     ensures taken { feed.new.reader.taken ≡ feed.old.reader.taken }
     ensures closed { feed.new.reader.closed ≡ feed.old.reader.closed }
     ensures all { is_all feed.new.reader.splitter ≡ is_all feed.old.reader.splitter }
@@ -184,6 +192,7 @@ fn gather_next(
             ),
         ) => {
             let mut made = lines_of(alloc, feed, header, offset, bytes, what, pictures)?;
+            put_inputs(&mut made, alloc, feed, inputs, what, pictures)?;
             fields_line(&mut made, unit, seen, None)?;
             lines.extend_from_slice(&made)?;
             Ok(Some(count_with(what, pictures, feed.unit())))
@@ -293,6 +302,30 @@ fn told_line(
     match set_numbers(feed, what) {
         Some(numbers) => set_line(alloc, numbers),
         None => Ok(Vec::new(alloc)),
+    }
+}
+
+/// Appends the lines of the slices of the completed picture, if there is one and they are asked for. `pictures` is the number of pictures
+/// before.
+fn put_inputs(
+    lines: &mut Vec<u8>,
+    alloc: Global,
+    feed: &Feed,
+    inputs: bool,
+    what: Accepted,
+    pictures: u64,
+) -> Result<(), AllocError>
+    requires { what ≡ PictureDone → HasPicture feed.now.assembler }
+    ensures { (R : Readers) → AreOfH266 R → (g : List ℕ) (units : List UnitPlace) (r : Reading) (before : List Reading)
+        → HasFed R feed.now g units (r ∷ before) → what ≡ told_of r before → pictures ≡ length (pictures_in before)
+        → OnOk result (lines.new.items ≡ lines.old.items ++ asked_inputs inputs r before) }
+{
+    if !inputs {
+        return Ok(());
+    }
+    match what {
+        Accepted::PictureDone => input_lines(lines, alloc, pictures, &feed.picture()),
+        _ => Ok(()),
     }
 }
 

@@ -4,7 +4,7 @@ ghost use Rattle.std.specs.Prelude.{◌≡◌, ◌≤◌, ◌∷◌, ◌↔◌, 
 ghost use Rattle.vx_run.specs.inner.Asked.{asked};
 ghost use Rattle.vx_run.specs.Grammar.{Command as Asked, show, extract, check_extract, merge, play, check_merge, verify, trial, explain, Placing as PlacingAsked, IsRuleOrField, AskFor, IsUnderstood, NamesFiles, files_of, texts};
 ghost use Rattle.vx_run.specs.inner.Placings.{NameLevelAndFiles, spelled};
-ghost use Rattle.vx_run.specs.inner.Words.{BeginsNot, NoneAlone, IsNumberFirst, IsOptionFirst, is_plain};
+ghost use Rattle.vx_run.specs.inner.Words.{BeginsNot, IsFlagFirst, IsNumberFirst, IsOptionFirst, is_plain};
 
 use crate::placings::Placings;
 use vx_explain::{explanation, rules_and_fields_are_explained};
@@ -12,9 +12,10 @@ use vx_explain::{explanation, rules_and_fields_are_explained};
 /// A command, with the options and files that its arguments name.
 #[derive(Clone, Copy)]
 pub(crate) enum Command<'a> {
-    /// `show [--fields] FILE`
+    /// `show [--fields] [--inputs] FILE`
     Show {
         fields: bool,
+        inputs: bool,
         file: &'a str,
     },
     /// `extract [--tid T] [--level N] INDEX FILE`
@@ -121,31 +122,32 @@ fn plain_of(words: &[String]) -> Option<Command<'_>>
     }
 }
 
-/// Parses `[--fields] FILE`.
+/// Parses `[--fields] [--inputs] FILE`.
 fn show_of(words: &[String]) -> Option<Command<'_>>
     ensures some { IfSome result (λ command. AskFor (codes "show" ∷ texts words.now) (asked command)) }
-    ensures none { IfNone result ((fields : Bool) (file : List ℕ) → AskFor (codes "show" ∷ texts words.now) (show fields file) → ⊥) }
+    ensures none { IfNone result ((fields inputs : Bool) (file : List ℕ) → AskFor (codes "show" ∷ texts words.now) (show fields inputs file) → ⊥) }
 {
-    match file_alone(words) {
-        Some(file) => {
-            Some(Command::Show {
-                fields: false,
-                file,
-            })
-        }
-        None => show_fields_of(words),
-    }
+    let (fields, rest) = flag(words, "--fields");
+    let (inputs, rest) = flag(rest, "--inputs");
+    let file = file_alone(rest)?;
+    Some(Command::Show {
+        fields,
+        inputs,
+        file,
+    })
 }
 
-/// Parses `--fields FILE`, of arguments that aren't a single file.
-fn show_fields_of(words: &[String]) -> Option<Command<'_>>
-    requires { NoneAlone (texts words.now) }
-    ensures some { IfSome result (λ command. AskFor (codes "show" ∷ texts words.now) (asked command)) }
-    ensures none { IfNone result ((fields : Bool) (file : List ℕ) → AskFor (codes "show" ∷ texts words.now) (show fields file) → ⊥) }
+/// Parses an option without a value, of this name, before further arguments. Returns the arguments after it.
+fn flag<'a>(words: &'a [String], name: &str) -> (bool, &'a [String])
+    ensures { IsFlagFirst name.now (texts words.now) result.0 (texts result.1.now) }
 {
-    let rest = behind(words, "--fields")?;
-    let file = file_alone(rest)?;
-    Some(Command::Show { fields: true, file })
+    let Some(rest) = behind(words, name) else {
+        return (false, words);
+    };
+    if rest.is_empty() {
+        return (false, words);
+    }
+    (true, rest)
 }
 
 /// Parses `WORD`: a rule, or the number of a field.

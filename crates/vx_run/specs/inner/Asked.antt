@@ -5,7 +5,7 @@ use Rattle.vx_run.specs.Grammar as grammar
 use Rattle.vx_run.specs.inner.Placings.{spelled}
 
 abbrev pub asked : Command → grammar.Command
-asked (Show fields file) = grammar.show fields file.now
+asked (Show fields inputs file) = grammar.show fields inputs file.now
 asked (Extract tid level index file) = grammar.extract tid level index file.now
 asked (CheckExtract tid index file) = grammar.check_extract tid index file.now
 asked (Merge level placings) = grammar.merge level (spelled placings.words.now)

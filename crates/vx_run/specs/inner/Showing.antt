@@ -25,13 +25,18 @@ use Rattle.vx_run.specs.declared.stop.Stop.{Stop}
 use Rattle.vx_run.specs.declared.stop.Stop.TheVariants.{Refused, ReadFault, WriteFault, NoMemory}
 use Rattle.vx_run.specs.Change.{Change, HasNoFault, Gains, GainsFront}
 use Rattle.vx_run.specs.Conclusion.{Outcome}
-use Rattle.vx_run.specs.Show.{Teller, lines_behind, shown_lines, told_lines, shown_by, read_len}
+use Rattle.vx_run.specs.Show.{Teller, input_lines, lines_behind, shown_lines, told_lines, shown_by, read_len}
 use Rattle.vx_assemble.specs.Feed.{seen_of}
 
 -- The fields of a unit that it spells, if they are asked for.
 abbrev pub seen_by : (fields : Bool) → (R : Readers) → AreOfH266 R → List Reading → List ℕ → StructureFields
 seen_by true R h before unit = unit_fields R h before unit
 seen_by false R h before unit = no_fields
+
+-- The lines of the slices of the picture that a reading completes, if they are asked for.
+abbrev pub asked_inputs : (inputs : Bool) → Reading → List Reading → List ℕ
+asked_inputs true r before = input_lines r before
+asked_inputs false r before = []
 
 -- More may be read, or all was, and no picture lacks a slice.
 abbrev pub EndsBy : Option Closed → List Reading → Type 0

@@ -66,7 +66,7 @@ ByReaders P = (R : Readers) → AreOfH266 R → P R
 -- The status of a command whose sources have known bytes. It is 0 if the stream breaks no rule, the subpicture can be extracted, all
 -- rounds can be written or played, or are verified; otherwise it is 1. For commands without sources it is 0.
 abbrev pub HasStatus : {A : Type 0} → Command → Sources A → ℕ → Type 0
-HasStatus (show fields file) sources status =
+HasStatus (show fields inputs file) sources status =
     ByReaders (λ R. WhereKnown R (source_at sources 0) (λ b units ending. IsZeroWhere (ending ≡ None) status))
 HasStatus (extract tid level index file) sources status =
     ByReaders (λ R. WhereTold R (source_at sources 0) (λ ps ending. IsZeroWhere (IsExtractable (task_of tid level index) ps ending) status))

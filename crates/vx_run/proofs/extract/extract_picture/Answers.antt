@@ -11,8 +11,8 @@ returns-in-Ok-clause-answer g c R b units readings p ps done fed are stands =
     let same = shown_is c.picture.result (pictures readings) p ps (c.picture.ensures.shows R b units readings fed) are in
     rw same at c.in-Ok.ensures.answer done stands
 
-pub returns-in-Err-clause-answer : goal.returns-in-Err-clause-answer
-returns-in-Err-clause-answer g c R b units readings p ps done fed are stands =
+pub returns-clause-answer : goal.returns-clause-answer
+returns-clause-answer g c R b units readings p ps done fed are stands =
     let same = shown_is c.picture.result (pictures readings) p ps (c.picture.ensures.shows R b units readings fed) are in
     let l = g.K.Sink.bytes_taken c.args.out.now in
     let l' = g.K.Sink.bytes_taken c.picture-2.new.out in

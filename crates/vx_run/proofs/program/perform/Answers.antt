@@ -7,9 +7,9 @@ use Rattle.vx_run.proofs.program.perform.Goals as goal
 pub returns-in-Some-Show-clause-performs : goal.returns-in-Some-Show-clause-performs
 returns-in-Some-Show-clause-performs g c =
     let spelled = rw c.in-Some-Show.field-0-is at c.in-Some-Show.ensures.some in
-    let named = names-file _ _ c.requires (show _ _) spelled (omega arith) in
+    let named = names-file _ _ c.requires (show _ _ _) spelled (omega arith) in
     let within : 0 < length c.args.sources.now.items = omega arith in
-    performs-show _ _ _ c.index_mut.result.now c.show.new.source c.args.sources.now.items _ c.show.result _ _ spelled within c.index_mut.ensures.value (c.show.ensures.stop, c.show.ensures.shows)
+    performs-show _ _ _ c.index_mut.result.now c.show.new.source c.args.sources.now.items _ c.show.result _ _ _ spelled within c.index_mut.ensures.value (c.show.ensures.stop, c.show.ensures.shows)
 
 pub returns-in-Some-Help-clause-performs : goal.returns-in-Some-Help-clause-performs
 returns-in-Some-Help-clause-performs g c =

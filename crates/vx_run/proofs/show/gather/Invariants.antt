@@ -16,7 +16,7 @@ invariant-loop-next l =
     × (l.feed.reader.closed ≡ l.initial.feed.reader.closed)
     × (is_all l.feed.reader.splitter ≡ is_all l.initial.feed.reader.splitter)
     × ((R : Readers) (h : AreOfH266 R) (g : List ℕ) (units : List UnitPlace) (before : List Reading) → HasFed R l.initial.feed g units before → l.pictures ≡ length (pictures before)
-    → HasGathered R (teller l.fields R h) g units before l.feed l.initial.lines.items l.lines.items l.count)
+    → HasGathered R (teller l.fields l.inputs R h) g units before l.feed l.initial.lines.items l.lines.items l.count)
 
 abbrev pub decreases-loop-next : goal.decreases-loop-next
 decreases-loop-next l = left_to_take l.feed

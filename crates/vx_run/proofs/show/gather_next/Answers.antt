@@ -25,6 +25,19 @@ returns-in_err-made-in-Ok-Some-Nal c =
       stop = rw (p.1, p.2) tt;
     }
 
+pub returns-in_err-put_inputs-in-Ok-Some-Nal : goal.returns-in_err-put_inputs-in-Ok-Some-Nal
+returns-in_err-put_inputs-in-Ok-Some-Nal c =
+    let p = err_from_is_err_and c.from_residual-in_err-put_inputs-in-Ok-Some-Nal.result c.from_residual-in_err-put_inputs-in-Ok-Some-Nal.ensures.1 in
+    record {
+      answer = λ R of g units before fed count. rw (p.1, p.2) ([], refl, sym (append-nil c.args.lines.now.items));
+      taken = c.take_next.ensures.taken;
+      closed = c.take_next.ensures.closed;
+      all = c.take_next.ensures.all;
+      sought = λ is. never p.1 is;
+      falls = rw p.1 tt;
+      stop = rw (p.1, p.2) tt;
+    }
+
 pub returns-in_err-fields_line-in-Ok-Some-Nal : goal.returns-in_err-fields_line-in-Ok-Some-Nal
 returns-in_err-fields_line-in-Ok-Some-Nal c =
     let p = err_from_is_err_and c.from_residual-in_err-fields_line-in-Ok-Some-Nal.result c.from_residual-in_err-fields_line-in-Ok-Some-Nal.ensures.1 in
@@ -58,9 +71,10 @@ returns-in_ok-extend_from_slice-in-Ok-Some-Nal c =
     record {
       answer = λ R of g units before fed count.
           let gives = rw c.in-Ok-Some-Nal.field-0-0-is at (rw c.in-Ok-Some-Nal.field-0-is at c.in-Ok-Some-Nal.ensures.seen R of g units before fed) in
-          let made = taken_fields R of g units before c.args.feed.now c.take_next.new.feed fed c.unit-unit.result c.unit-unit.ensures c.args.fields gives.0 gives.1 c.take_next.new.seen
-          c.in_ok-made-in-Ok-Some-Nal.made.items _ gives.2 gives.4 (c.in_ok-made-in-Ok-Some-Nal.ensures R of g (units ++ gives.0 ∷ []) gives.0 gives.1 before gives.2 gives.3 count) c.in_ok-fields_line-in-Ok-Some-Nal.ensures in
-          gathers_one R (teller c.args.fields R of) g units before c.take_next.new.feed _ _ _ _ c.args.pictures _ _ _ c.in-Ok-Some-Nal.what gives.0 gives.1 gives.2 gives.3 count lines made
+          let made = taken_fields R of g units before c.args.feed.now c.take_next.new.feed fed c.unit-unit.result c.unit-unit.ensures c.args.fields c.args.inputs gives.0 gives.1 c.take_next.new.seen
+          c.in_ok-made-in-Ok-Some-Nal.made.items c.put_inputs.new.lines.items _ gives.2 gives.4 (c.in_ok-made-in-Ok-Some-Nal.ensures R of g (units ++ gives.0 ∷ []) gives.0 gives.1 before gives.2 gives.3 count)
+          (c.in_ok-put_inputs-in-Ok-Some-Nal.ensures R of g (units ++ gives.0 ∷ []) gives.1 before gives.2 gives.3.what count) c.in_ok-fields_line-in-Ok-Some-Nal.ensures in
+          gathers_one R (teller c.args.fields c.args.inputs R of) g units before c.take_next.new.feed _ _ _ _ c.args.pictures _ _ _ c.in-Ok-Some-Nal.what gives.0 gives.1 gives.2 gives.3 count lines made
           (λ is less. c.count_with.ensures.done is (rw c.unit.ensures less))
           c.count_with.ensures.other;
       taken = c.take_next.ensures.taken;
@@ -114,7 +128,7 @@ pub returns-in_ok-tell_refused-in-Err-Refused : goal.returns-in_ok-tell_refused-
 returns-in_ok-tell_refused-in-Err-Refused c = record {
   answer = λ R of g units before fed count.
       let sees = rw c.in-Err-Refused.field-0-is at c.in-Err-Refused.ensures.seen R of g units before fed in
-      let why = refused_told_of R of g units before c.args.feed.now c.take_next.new.feed fed c.unit-unit.result c.unit-unit.ensures c.args.fields c.in-Err-Refused.refusal c.take_next.new.seen sees in
+      let why = refused_told_of R of g units before c.args.feed.now c.take_next.new.feed fed c.unit-unit.result c.unit-unit.ensures c.args.fields c.args.inputs c.in-Err-Refused.refusal c.take_next.new.seen sees in
       (fields_text c.unit-unit.result c.take_next.new.seen (refused_field c.in-Err-Refused.refusal), (why.0, ap (places.Unit 0) (c.unit-unit.ensures ∙ fed.count), why.1), c.in_ok-tell_refused-in-Err-Refused.ensures.ok);
   taken = c.take_next.ensures.taken;
   closed = c.take_next.ensures.closed;

@@ -7,7 +7,7 @@ use Rattle.vx_run.proofs.show.show_seen.Goals as goal
 pub returns-clause-answer : goal.returns-clause-answer
 returns-clause-answer g c R of b units before read count =
     let gathered = rw c.clear.ensures.items at c.gather-ending.ensures.answer R of b units before read count in
-    ShowsLater-written R (teller c.args.fields R of) b units before c.gather-ending.new.feed c.gather-ending.new.lines.items _ c.gather-ending.result gathered
+    ShowsLater-written R (teller c.args.fields c.args.inputs R of) b units before c.gather-ending.new.feed c.gather-ending.new.lines.items _ c.gather-ending.result gathered
     (record { kept = c.in_ok-write_all.ensures.faults; gained = search rules })
 
 pub returns-in_err-write_all-clause-answer : goal.returns-in_err-write_all-clause-answer
@@ -15,4 +15,4 @@ returns-in_err-write_all-clause-answer g c R of b units before read count =
     let gathered = rw c.clear.ensures.items at c.gather-ending.ensures.answer R of b units before read count in
     let p = err_from_is_err_and c.from_residual.result c.from_residual.ensures.1 in
     rw (p.1, p.2)
-    (ShowsLater-cut R (teller c.args.fields R of) b units before c.gather-ending.new.feed c.gather-ending.new.lines.items _ c.gather-ending.result gathered (record { failed = search rules; gained = search rules }))
+    (ShowsLater-cut R (teller c.args.fields c.args.inputs R of) b units before c.gather-ending.new.feed c.gather-ending.new.lines.items _ c.gather-ending.result gathered (record { failed = search rules; gained = search rules }))

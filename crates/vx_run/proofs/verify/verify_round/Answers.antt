@@ -22,8 +22,8 @@ returns-in-Ok c =
       stop = tt;
     }
 
-pub returns-in-Err : goal.returns-in-Err
-returns-in-Err c =
+pub returns : goal.returns
+returns c =
     let feeds : List Feeding = c.args.feeds.now in
     let lent : List Feeding → List Parts = λ l. map (λ (f : Feeding). lent_by f.assembler) l in
     let spots = c.args.verifier.now.spots in
