@@ -4,8 +4,8 @@
 usage: scripts/make-cases.py VECTORS STREAMS
 
 No expected output is taken from the program. The worked cases are in worked_cases.py, told_cases.py, fed_cases.py, verify_cases.py,
-hostile_cases.py, play_cases.py, trial_cases.py, explain_cases.py, fields_cases.py and pushed_cases.py. VECTORS and STREAMS are folders that
-aren't in the repository. Run scripts/doc_cases.py after it.
+hostile_cases.py, play_cases.py, trial_cases.py, explain_cases.py, fields_cases.py, inputs_cases.py and pushed_cases.py. VECTORS and STREAMS
+are folders that aren't in the repository. Run scripts/doc_cases.py after it.
 
 VECTORS has these files. `_` in LINE is a blank, and `-` is nothing.
 
@@ -16,6 +16,7 @@ VECTORS has these files. `_` in LINE is a blank, and `-` is nothing.
     extract.txt   Lines `stream N WORDS status=S err=LINE out=BYTES`.
     show.txt      A stream is a line `stream N status=S err=LINE`, and the lines that are shown of it.
     verify.txt    As merge.txt, with the number of the finished stream after `verify merge`, and `out` as text.
+    pictures.txt  A stream is a line `stream N`, a line `picture` for each picture and a line `slice` for each slice, with words NAME=VALUE.
     play.txt      As merge.txt.
     trial.txt     Lines `SEED SOURCES PICTURES | LINE` or `generate SEED SOURCES PICTURES source K BYTES`.
 
@@ -29,6 +30,7 @@ from explain_cases import add_explained
 from fed_cases import add_fed
 from fields_cases import add_family_sets, add_fields, add_model_fields
 from hostile_cases import add_hostile
+from inputs_cases import add_inputs, add_model_inputs
 from joined_streams import joined
 from plain_streams import stream
 from play_cases import add_model_played, add_played
@@ -137,6 +139,9 @@ def main(vectors, streams):
     add_family_sets(cases, family_merges(streams))
     add_model_fields(cases, *({number: lines[1:] for number, lines in sections(os.path.join(vectors, name)).items()}
                               for name in ("streams.txt", "show.txt")))
+    add_inputs(cases)
+    add_model_inputs(cases, *({number: lines[1:] for number, lines in sections(os.path.join(vectors, name)).items()}
+                              for name in ("streams.txt", "show.txt", "pictures.txt")))
     add_pushed(cases)
     cases.write(CRATE)
     print(f"{cases.count} cases, {len(cases.names)} streams")
