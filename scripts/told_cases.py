@@ -199,8 +199,8 @@ def add_shown_faults(cases):
     for source, lines, step in ((A, GRAY_LINES, 1), (TWICE, TWICE_LINES, 5)):
         for call in range(0, len(lines), step):
             cases.case(f"show {cases.name(source)}", failed("write fault", lines[:call]), "pieces out 1", f"fail out {call}")
-    cases.about("show: a sink that takes some bytes of its first write, and fails at the next: those bytes are written")
-    for room in range(1, len(GRAY_LINES), 7):
+    cases.about("show: the sets are one write, of which the sink takes some bytes, and fails at the next call: those bytes are written")
+    for room in range(1, len(GRAY_SETS), 7):
         cases.case(words, failed("write fault", GRAY_LINES[:room]), f"pieces out {room}", "fail out 1")
     cases.about("show: a byte a write to `err`, of which each fails once: nothing else changes")
     line = "F3 source 0 byte 8"
